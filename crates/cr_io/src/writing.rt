@@ -1,0 +1,29 @@
+//! Writing a text whole.
+
+ghost use Rattle.std.specs.Prelude.{◌≤◌, OnOk, OnErr};
+ghost use Rattle.cr_io.specs.Causes.{Rose};
+ghost use Rattle.cr_io.specs.Grown.{GrowsByFront};
+
+use crate::{Failed, Sink};
+
+/// The text could not be written whole.
+#[derive(Debug, Drop, Clone, Copy, PartialEq, Eq)]
+pub struct WriteFault;
+
+/// Appends the whole text. `WriteFault` comes only where the sink's count of faults rose in this
+/// call, and then a front of the text was appended. It takes no memory.
+pub fn write_whole<K: Sink>(sink: &mut K, text: &[u8]) -> Result<(), WriteFault>
+    ensures whole { OnOk result (K.grew sink.old sink.new text.now) }
+    ensures front { OnErr result (GrowsByFront K.grew sink.old sink.new text.now) }
+    ensures fault { OnErr result (Rose (K.faults sink.old) (K.faults sink.new)) }
+    ensures later { K.faults sink.old ≤ K.faults sink.new }
+{
+    let mut done = 0;
+    while done < text.len() {
+        match sink.write(&text[done..]) {
+            Ok(count) => done += count,
+            Err(Failed) => return Err(WriteFault),
+        }
+    }
+    Ok(())
+}
