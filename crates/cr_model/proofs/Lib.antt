@@ -1,0 +1,16 @@
+pub mod Bells
+pub mod Checking
+pub mod Counting
+pub mod Differing
+pub mod InOrder
+pub mod LeastRotation
+pub mod Lengths
+pub mod Minimus
+pub mod OneFault
+pub mod Parts
+pub mod Prefixes
+pub mod Ringing
+pub mod Rotations
+pub mod Splitting
+pub mod Turned
+pub mod WantedTest

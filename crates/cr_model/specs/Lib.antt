@@ -1,0 +1,13 @@
+pub use Rattle.cr_row.specs.Rows
+pub mod Problems
+pub mod Callings
+pub mod Queries
+pub mod Touches
+pub mod Nodes
+pub mod Books
+pub mod Sound
+pub mod Faults
+pub mod Examples
+pub mod Notation
+pub mod NotationFaults
+pub mod NotationTexts

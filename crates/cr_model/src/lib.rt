@@ -1,0 +1,22 @@
+//! Problems and callings, and the definitions that the engine rests on.
+#![tactic(auto)]
+
+pub mod calling;
+mod checks;
+mod copies;
+pub mod fault;
+pub mod laws;
+pub mod lead;
+pub mod notation;
+pub mod problem;
+pub mod query;
+
+pub use calling::Calling;
+pub use fault::{CountAt, PartFault};
+pub use lead::{Lead, Step};
+pub use notation::NotationFault;
+pub use problem::Problem;
+pub use query::{Cell, Com, Count, MethodCount, Pattern, Query};
+
+#[cfg(test)]
+mod tests;

@@ -1,0 +1,11 @@
+pub mod Named
+pub mod Sound
+pub mod Complete
+pub mod First
+pub mod Decided
+pub mod Chains
+pub mod Mirrors
+pub mod Signs
+pub mod Refined
+pub mod Written
+pub mod Canonical

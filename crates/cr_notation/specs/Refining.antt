@@ -1,0 +1,40 @@
+-- What the reader's fields are, as the state of reading.
+use Rattle.std.specs.Prelude.{◌≡◌, ℕ, ◌≤◌, List, [], get_or, Result, Ok, Err}
+use Rattle.cr_row.specs.Rows.{Places}
+use Rattle.cr_model.specs.declared.notation.NotationFault.{NotationFault}
+use Rattle.cr_model.specs.declared.notation.NotationFault.TheVariants.{NoMemory}
+use Rattle.cr_model.specs.Notation.{IsNamed}
+use Rattle.cr_notation.specs.declared.reader.Last.{Last}
+use Rattle.cr_notation.specs.declared.reader.Last.TheVariants as last
+use Rattle.cr_notation.specs.declared.reader.Reader.{Reader}
+use Rattle.cr_notation.specs.Reading.{State, closed}
+
+abbrev pub state_of : Reader → State
+state_of reader = record { comma_seen = reader.comma_seen; done = reader.done.items; block = reader.block.items; named = reader.named.items; last = reader.last }
+
+-- no group is open any more
+abbrev pub shut : ℕ → State → State
+shut n s = record s { block = closed n s; named = [] }
+
+-- the places of an open group follow the rules, from 1 on
+abbrev pub IsReadyBy : ℕ → Last → List ℕ → Type 0
+IsReadyBy n last.Group named = IsNamed n named × (1 ≤ get_or named 0 0)
+IsReadyBy n _ named = Unit {0}
+
+abbrev pub IsReady : ℕ → State → Type 0
+IsReady n s = IsReadyBy n s.last s.named
+
+-- a fault that reading gives, or want of memory
+abbrev pub Fails : {Y : Type 0} → NotationFault → Result Y NotationFault → Type 0
+Fails NoMemory read = Unit {0}
+Fails fault read = read ≡ Err fault
+
+-- what a call returned and left is what a step gives, unless memory ran out
+abbrev pub Steps : {X : Type 0} → Result X NotationFault → Result State NotationFault → State → Type 0
+Steps (Ok x) read after = read ≡ Ok after
+Steps (Err fault) read after = Fails fault read
+
+-- what a call returned, seen by a view, is what reading gives, unless memory ran out
+abbrev pub Gives : {X Y : Type 0} → (X → Y) → Result X NotationFault → Result Y NotationFault → Type 0
+Gives view (Ok x) read = read ≡ Ok (view x)
+Gives view (Err fault) read = Fails fault read

@@ -1,0 +1,10 @@
+pub mod Packing
+pub mod RowLaws
+pub mod Reached
+pub mod Inverses
+pub mod ChangeLaws
+pub mod Nibbles
+pub mod Masking
+pub mod CheckedPlaces
+pub mod PackedRounds
+pub mod PackedOrder

@@ -1,0 +1,49 @@
+-- Rows and changes of the Framework for Method Ringing, as plain lists: the bell at each place, from the first place on.
+use Rattle.std.specs.Prelude.{◌≡◌, ℕ, ◌+◌, ◌-◌, ◌%◌, ◌<◌, ◌≤◌, cond, List, [], ◌∷◌, ◌++◌, length, get_or, map, nat_eq}
+use Rattle.std.specs.List.{range_with_len, list_any}
+
+-- a row: each of the bells 1 to the length, once. No other stands at a place, none stands twice, and each stands somewhere
+pub record IsRow (row : List ℕ) : Type 0 where
+  pub in_range : (i : ℕ) → i < length row → (0 < get_or row i 0) × (get_or row i 0 ≤ length row)
+  pub apart : (i j : ℕ) → i < length row → j < length row → get_or row i 0 ≡ get_or row j 0 → i ≡ j
+  pub reached : (b : ℕ) → 0 < b → b ≤ length row → (i : ℕ) × (i < length row) × (get_or row i 0 ≡ b)
+
+-- rounds: 1, 2, and so on to n
+abbrev pub rounds : ℕ → List ℕ
+rounds n = range_with_len 1 n
+
+-- h·r: at each place, the bell of h at the place that r has there
+abbrev pub product : List ℕ → List ℕ → List ℕ
+product h r = map (λ b. get_or h (b - 1) 0) r
+
+-- r undoes h, on both sides
+pub record IsInverse (h r : List ℕ) : Type 0 where
+  pub right : product h r ≡ rounds (length h)
+  pub left : product r h ≡ rounds (length h)
+
+-- what a change is given by: its stage, and the list of the places made
+pub record Places : Type 0 where
+  pub stage : ℕ
+  pub made : List ℕ
+
+-- a place is above the one before it, and an even number of places stands between them
+abbrev pub IsNext : ℕ → ℕ → Type 0
+IsNext before place = (before < place) × ((place - before) % 2 ≡ 1)
+
+-- the places made, with 0 before the first and the stage's next number after the last
+abbrev pub edges : Places → List ℕ
+edges change = 0 ∷ (change.made ++ (change.stage + 1) ∷ [])
+
+-- a change: the places made ascend, and each stretch of places not made has an even length
+abbrev pub IsChange : Places → Type 0
+IsChange change = (i : ℕ) → i < length change.made + 1 → IsNext (get_or (edges change) i 0) (get_or (edges change) (i + 1) 0)
+
+-- a row from place p on, after a change: at a place made the bell stays; in a stretch of places not made the first swaps with the second, the third with the fourth
+abbrev pub changed : List ℕ → ℕ → List ℕ → List ℕ
+changed made p [] = []
+changed made p (x ∷ []) = x ∷ []
+changed made p (x ∷ y ∷ xs) = cond (list_any (nat_eq p) made) (x ∷ changed made (p + 1) (y ∷ xs)) (y ∷ x ∷ changed made (p + 2) xs)
+
+-- the row after a change
+abbrev pub after : Places → List ℕ → List ℕ
+after change row = changed change.made 1 row

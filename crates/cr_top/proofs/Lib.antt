@@ -1,0 +1,4 @@
+pub mod Ringing
+pub mod PlainTouches
+pub mod PlainBooks
+pub mod Steps

@@ -1,0 +1,14 @@
+//! The top call: from the words of the command line and the bytes of the input to the bytes of the book.
+#![tactic(auto)]
+
+mod book;
+mod form;
+mod search;
+mod status;
+#[cfg(test)]
+mod tests;
+mod top;
+mod words;
+
+pub use status::Status;
+pub use top::ringsearch;
