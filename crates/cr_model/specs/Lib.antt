@@ -11,3 +11,6 @@ pub mod Examples
 pub mod Notation
 pub mod NotationFaults
 pub mod NotationTexts
+pub mod Keys
+pub mod Files
+pub mod ProblemFiles

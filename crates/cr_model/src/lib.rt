@@ -5,6 +5,7 @@ pub mod calling;
 mod checks;
 mod copies;
 pub mod fault;
+pub mod file_fault;
 pub mod laws;
 pub mod lead;
 pub mod notation;
@@ -13,6 +14,7 @@ pub mod query;
 
 pub use calling::Calling;
 pub use fault::{CountAt, PartFault};
+pub use file_fault::{KeyPath, ProblemFault, Whose};
 pub use lead::{Lead, Step};
 pub use notation::NotationFault;
 pub use problem::Problem;

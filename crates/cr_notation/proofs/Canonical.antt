@@ -1,12 +1,11 @@
 -- The canonical text spells its changes.
-use Rattle.std.proofs.Common.{◌≡◌, ℕ, zero, suc, ◌+◌, ◌-◌, ◌%◌, ◌<◌, ◌≤◌, Bool, true, false, cond, ◌||◌, List, [], ◌∷◌, ◌++◌, length, get_or, map, refl, sym, ap, subst, ◌∙◌, arith, append_assoc, ◌⊎◌, inl, inr, All}
-use Rattle.std.specs.Prelude.{nat_eq}
+use Rattle.std.proofs.Common.{◌≡◌, ℕ, ◌+◌, ◌-◌, ◌%◌, ◌<◌, ◌≤◌, Bool, true, false, cond, List, [], ◌∷◌, ◌++◌, length, get_or, map, refl, sym, ap, subst, ◌∙◌, arith, append_assoc, inl, inr, All}
 use Rattle.std.specs.List.{AllByRecursion}
 use Rattle.std.proofs.lemmas.List.{append-nil}
 use Rattle.std.proofs.lemmas.List.Elements.{recursion_from_All}
 use Rattle.cr_row.specs.Rows.{Places, IsNext, IsChange}
 use Rattle.cr_row.specs.Symbols.{symbol_of}
-use Rattle.cr_model.specs.Notation.{Sign, cross, place, dot, is_blank, sign_of, signs_of, Item, crossing, group, is_crossing, item_signs, IsNamed, IsItem, IsBetween, Follow, IsBlock, first_implied, last_named, last_implied, change_of, changes_of_items, Spells}
+use Rattle.cr_model.specs.Notation.{Sign, place, is_blank, sign_of, signs_of, Item, crossing, group, item_signs, IsNamed, IsItem, IsBetween, Follow, IsBlock, first_implied, last_implied, change_of, changes_of_items, Spells}
 use Rattle.cr_model.specs.NotationTexts.{places_text, dot_between, canonical_text}
 use Rattle.cr_notation.proofs.Named.{even_test}
 use Rattle.cr_notation.proofs.Signs.{symbol_sign}

@@ -1,9 +1,9 @@
 -- The places of a change, one after another.
-use Rattle.std.proofs.Common.{◌≡◌, ℕ, zero, suc, ◌+◌, ◌-◌, ◌%◌, ◌<◌, ◌≤◌, Bool, true, false, cond, List, [], ◌∷◌, ◌++◌, length, get_or, refl, sym, ap, subst, ◌∙◌, arith}
+use Rattle.std.proofs.Common.{◌≡◌, ℕ, zero, suc, ◌+◌, ◌-◌, ◌%◌, ◌<◌, ◌≤◌, Bool, true, false, cond, List, [], ◌∷◌, ◌++◌, length, get_or, refl, subst, arith}
 use Rattle.std.specs.Prelude.{nat_eq}
 use Rattle.std.proofs.lemmas.Bool.Decides.{nat_tests}
-use Rattle.cr_row.specs.Rows.{Places, IsNext, edges, IsChange}
-use Rattle.cr_model.specs.Notation.{group, crossing, first_implied, last_named, last_implied, change_of, IsNamed}
+use Rattle.cr_row.specs.Rows.{IsNext, IsChange}
+use Rattle.cr_model.specs.Notation.{group, first_implied, last_implied, change_of, IsNamed}
 
 -- each place is next to the one before it, and the stage's next number to the last
 abbrev pub Chain : ℕ → ℕ → List ℕ → Type 0
@@ -59,7 +59,7 @@ first_place n p rest false h low chain =
     let even : (p - 1) % 2 ≡ 0 = grind (arith, nat_tests) in
     ((omega arith, omega arith), chain)
 
-group_chain : (n : ℕ) (named : List ℕ) → IsNamed n named → 1 ≤ get_or named 0 0 → Chain n 0 (first_implied named ++ (named ++ last_implied n named))
+pub group_chain : (n : ℕ) (named : List ℕ) → IsNamed n named → 1 ≤ get_or named 0 0 → Chain n 0 (first_implied named ++ (named ++ last_implied n named))
 group_chain n [] h low = absurd h
 group_chain n (p ∷ ps) h low = first_place n p (ps ++ last_implied n (p ∷ ps)) (nat_eq ((p - 1) % 2) 1) refl low (last_places n p ps h)
 
@@ -67,6 +67,6 @@ group_chain n (p ∷ ps) h low = first_place n p (ps ++ last_implied n (p ∷ ps
 pub group_is_change : (n : ℕ) (named : List ℕ) → IsNamed n named → 1 ≤ get_or named 0 0 → IsChange (change_of n (group named))
 group_is_change n named h low = change_from_chain n (first_implied named ++ (named ++ last_implied n named)) (group_chain n named h low)
 
--- and so is a cross on an even stage
-pub cross_is_change : (n : ℕ) → n % 2 ≡ 0 → IsChange (change_of n crossing)
-cross_is_change n even = change_from_chain n [] (omega arith, omega arith)
+-- a cross on an even stage is one too
+pub cross_chain : (n : ℕ) → n % 2 ≡ 0 → Chain n 0 []
+cross_chain n even = (omega arith, omega arith)

@@ -1,16 +1,15 @@
 -- What stands for changes by the grammar is read, with these changes.
-use Rattle.std.proofs.Common.{◌≡◌, ◌≢◌, ℕ, zero, suc, ◌+◌, ◌-◌, ◌%◌, ◌<◌, ◌≤◌, Bool, true, false, cond, ◌||◌, List, [], ◌∷◌, ◌++◌, Result, Ok, Err, map, refl, sym, ap, subst, ◌∙◌, arith, append_assoc, ◌⊎◌, inl, inr}
-use Rattle.std.specs.Prelude.{nat_eq, nat_lt, nat_le}
+use Rattle.std.proofs.Common.{◌≡◌, ℕ, ◌+◌, ◌%◌, ◌≤◌, Bool, true, false, cond, List, [], ◌∷◌, ◌++◌, Result, Ok, Err, map, refl, sym, ap, subst, ◌∙◌, append_assoc, inl, inr}
 use Rattle.std.proofs.lemmas.List.{append-nil}
 use Rattle.cr_row.specs.Rows.{Places, IsNext}
 use Rattle.cr_model.specs.declared.notation.NotationFault.{NotationFault}
-use Rattle.cr_model.specs.declared.notation.NotationFault.TheVariants.{Symbol, Above, Order, Gap, CrossOnOdd, Dot, EmptyBlock, SecondComma}
-use Rattle.cr_model.specs.Notation.{Sign, cross, place, dot, comma, other, end_of_text, is_blank, sign_of, signs_of, Item, group, crossing, is_crossing, item_signs, last_named, change_of, changes_of_items, mirrored, IsNamed, IsItem, IsBetween, Follow, IsBlock}
+use Rattle.cr_model.specs.declared.notation.NotationFault.TheVariants.{Above, CrossOnOdd, SecondComma}
+use Rattle.cr_model.specs.Notation.{Sign, cross, place, dot, comma, is_blank, sign_of, signs_of, Item, group, crossing, is_crossing, item_signs, last_named, change_of, changes_of_items, mirrored, IsNamed, IsItem, IsBetween, Follow, IsBlock}
 use Rattle.cr_notation.specs.declared.reader.Last.{Last}
 use Rattle.cr_notation.specs.declared.reader.Last.TheVariants as last
-use Rattle.cr_notation.specs.Reading.{State, closed_by, closed, more_named, first_named, named_after, place_step, cross_step, dot_after, dot_step, ended, comma_after, comma_step, whole, end_after, end_step, step, byte_step, then_all, read_from, IsOpenBy, IsOpen}
+use Rattle.cr_notation.specs.Reading.{State, closed_by, closed, first_named, named_after, place_step, cross_step, dot_step, ended, comma_after, comma_step, whole, end_after, end_step, step, byte_step, then_all, read_from, IsOpenBy, IsOpen}
 use Rattle.cr_notation.proofs.Named.{even_test, at_most_test, above_test, gap_test, named_next, named_at_most, named_front}
-use Rattle.cr_notation.proofs.Sound.{InGroup, Continues, total, One, Two, Rest, Closes}
+use Rattle.cr_notation.proofs.Sound.{InGroup, Continues, total, One, Rest, Closes}
 
 -- a step, and what is left behind it
 pub record Forth (n k : ℕ) (s : State) (sign : Sign) (part : List Sign) (items : List Item) : Type 0 where

@@ -1,15 +1,15 @@
 -- Reading gives the changes that a text spells, and else its first fault.
-use Rattle.std.proofs.Common.{◌≡◌, ◌≢◌, ℕ, zero, suc, ◌+◌, ◌<◌, ◌≤◌, Bool, true, false, cond, List, [], ◌∷◌, ◌++◌, length, reverse, Option, Some, None, Result, Ok, Err, refl, sym, ap, subst, ◌∙◌, arith, append_assoc, ◌⊎◌, inl, inr}
+use Rattle.std.proofs.Common.{◌≡◌, ℕ, ◌<◌, ◌≤◌, Bool, true, false, cond, List, [], ◌∷◌, ◌++◌, length, reverse, Option, Some, None, Result, Ok, Err, refl, sym, ap, subst, ◌∙◌, arith, append_assoc, ◌⊎◌, inl, inr}
 use Rattle.std.specs.Prelude.{nat_lt}
 use Rattle.std.proofs.lemmas.List.{append-nil, reverse-append}
 use Rattle.std.proofs.lemmas.Bool.Decides.{nat_tests}
 use Rattle.cr_row.specs.Rows.{Places}
 use Rattle.cr_model.specs.declared.notation.NotationFault.{NotationFault}
 use Rattle.cr_model.specs.declared.notation.NotationFault.TheVariants.{Long}
-use Rattle.cr_model.specs.Notation.{Sign, comma, signs_of, Item, change_of, changes_of_items, mirrored, IsBlock, IsPlain, IsSymmetric, StandsFor, Spells}
-use Rattle.cr_model.specs.NotationFaults.{Mark, marks_from, marks_of, fault_at, Faultless, FaultAt, TooLong, FirstFault}
-use Rattle.cr_notation.specs.Reading.{State, fresh, read_from, read_all, limited}
-use Rattle.cr_notation.proofs.Sound.{One, Two, Rest, sound}
+use Rattle.cr_model.specs.Notation.{Sign, signs_of, Item, changes_of_items, mirrored, IsBlock, StandsFor, Spells}
+use Rattle.cr_model.specs.NotationFaults.{Mark, marks_of, fault_at, Faultless, FaultAt, FirstFault}
+use Rattle.cr_notation.specs.Reading.{fresh, read_from, read_all, limited}
+use Rattle.cr_notation.proofs.Sound.{Rest, sound}
 use Rattle.cr_notation.proofs.Complete.{complete}
 use Rattle.cr_notation.proofs.First.{or_else, scan, fault_of, Agrees, read_scan}
 

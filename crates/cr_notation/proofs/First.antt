@@ -1,16 +1,16 @@
 -- The fault that reading meets is the first one of the text.
-use Rattle.std.proofs.Common.{◌≡◌, ◌≢◌, ℕ, zero, suc, ◌+◌, ◌-◌, ◌%◌, ◌<◌, ◌≤◌, Bool, true, false, cond, ◌||◌, List, [], ◌∷◌, ◌++◌, reverse, Option, Some, None, Result, Ok, Err, map, refl, sym, ap, subst, ◌∙◌, arith, append_assoc, ◌⊎◌, inl, inr}
+use Rattle.std.proofs.Common.{◌≡◌, ◌≢◌, ℕ, ◌+◌, ◌-◌, ◌%◌, Bool, true, false, cond, ◌||◌, List, [], ◌∷◌, ◌++◌, Option, Some, None, Result, Ok, Err, refl, sym, ap, subst, ◌∙◌}
 use Rattle.std.specs.Prelude.{nat_eq, nat_lt, nat_le}
-use Rattle.std.specs.List.{list_any, range_with_len}
+use Rattle.std.specs.List.{range_with_len}
 use Rattle.cr_row.specs.Rows.{Places}
 use Rattle.cr_row.specs.Symbols.{symbol_of}
 use Rattle.cr_model.specs.declared.notation.NotationFault.{NotationFault}
-use Rattle.cr_model.specs.declared.notation.NotationFault.TheVariants.{Symbol, Above, Order, Gap, CrossOnOdd, Dot, EmptyBlock, SecondComma}
-use Rattle.cr_model.specs.Notation.{Sign, cross, place, dot, comma, other, end_of_text, is_blank, is_cross, place_of, sign_of, group, crossing, last_named, change_of, mirrored}
-use Rattle.cr_model.specs.NotationFaults.{Mark, marks_from, is_comma, is_dot, is_of_item, starts_block, follows_dot, nearest_at, has_item, has_comma, order_fault, group_fault, place_fault, empty_fault, fault_at, Faultless}
+use Rattle.cr_model.specs.declared.notation.NotationFault.TheVariants.{Above, Order, Gap, CrossOnOdd, Dot, EmptyBlock, SecondComma}
+use Rattle.cr_model.specs.Notation.{Sign, cross, place, dot, comma, other, end_of_text, is_blank, is_cross, place_of, sign_of, crossing, last_named, change_of}
+use Rattle.cr_model.specs.NotationFaults.{Mark, marks_from, is_comma, is_dot, is_of_item, starts_block, follows_dot, has_item, has_comma, group_fault, place_fault, fault_at}
 use Rattle.cr_notation.specs.declared.reader.Last.{Last}
 use Rattle.cr_notation.specs.declared.reader.Last.TheVariants as last
-use Rattle.cr_notation.specs.Reading.{State, fresh, closed, more_named, first_named, named_after, place_step, cross_step, dot_after, dot_step, ended, comma_after, comma_step, whole, end_after, end_step, step, byte_step, then_all, read_from}
+use Rattle.cr_notation.specs.Reading.{State, closed, more_named, first_named, named_after, place_step, cross_step, dot_after, dot_step, ended, comma_after, comma_step, end_after, end_step, step, byte_step, then_all, read_from}
 
 -- ---- no byte is the end
 

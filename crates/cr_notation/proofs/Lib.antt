@@ -9,3 +9,4 @@ pub mod Signs
 pub mod Refined
 pub mod Written
 pub mod Canonical
+pub mod Spelled

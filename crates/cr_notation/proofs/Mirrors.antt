@@ -1,5 +1,5 @@
 -- One more change on the way back.
-use Rattle.std.proofs.Common.{◌≡◌, ℕ, ◌+◌, ◌-◌, ◌<◌, ◌≤◌, List, [], ◌∷◌, ◌++◌, length, get_or, take, drop, reverse, refl, sym, ap, ◌∙◌, arith, append_assoc, length-drop}
+use Rattle.std.proofs.Common.{◌≡◌, ℕ, ◌+◌, ◌-◌, ◌<◌, ◌≤◌, List, [], ◌∷◌, ◌++◌, length, get_or, take, drop, reverse, sym, ap, ◌∙◌, arith, append_assoc, length-drop}
 use Rattle.std.proofs.lemmas.List.{take_more, get_or-drop, get_or-reverse, length-reverse}
 
 pub mirrored_more : {A : Type 0} (front done block : List A) (back : ℕ) (x : A) → 1 ≤ back → back < length block → x ≡ get_or block (length block - 1 - back) x

@@ -1,5 +1,5 @@
 -- The reader's loop gives what reading gives.
-use Rattle.std.proofs.Common.{◌≡◌, ◌≢◌, ℕ, zero, suc, ◌+◌, ◌<◌, ◌≤◌, Bool, true, false, cond, List, [], ◌∷◌, length, get_or, drop, Result, Ok, Err, refl, sym, ap, subst, ◌∙◌, arith}
+use Rattle.std.proofs.Common.{◌≡◌, ◌≢◌, ℕ, ◌+◌, ◌<◌, ◌≤◌, true, false, cond, List, length, get_or, drop, Result, Ok, Err, refl, sym, ap, subst, ◌∙◌, arith}
 use Rattle.std.specs.Prelude.{nat_lt, IfOk, IfErr}
 use Rattle.std.proofs.lemmas.List.{drop_more, drop_all}
 use Rattle.std.proofs.lemmas.Bool.Decides.{nat_tests}
@@ -9,7 +9,7 @@ use Rattle.cr_model.specs.declared.notation.NotationFault.TheVariants as fault
 use Rattle.cr_model.specs.Notation.{Spells}
 use Rattle.cr_model.specs.NotationFaults.{FirstFault}
 use Rattle.cr_notation.specs.Reading.{State, fresh, byte_step, end_step, then_all, read_from, limited, read_all}
-use Rattle.cr_notation.specs.Refining.{Fails, Steps, Gives}
+use Rattle.cr_notation.specs.Refining.{Fails, Gives}
 use Rattle.cr_notation.proofs.Decided.{IsAnswer, read_answers}
 
 -- one byte more

@@ -1,14 +1,14 @@
 -- What is read stands for its changes by the grammar.
-use Rattle.std.proofs.Common.{◌≡◌, ◌≢◌, ℕ, zero, suc, ◌+◌, ◌-◌, ◌%◌, ◌<◌, ◌≤◌, Bool, true, false, cond, ◌||◌, List, [], ◌∷◌, ◌++◌, Result, Ok, Err, map, refl, sym, ap, subst, ◌∙◌, arith, append_assoc, ◌⊎◌, inl, inr}
+use Rattle.std.proofs.Common.{◌≡◌, ◌≢◌, ℕ, ◌+◌, ◌-◌, ◌%◌, ◌≤◌, Bool, true, false, cond, List, [], ◌∷◌, ◌++◌, Result, Ok, Err, map, refl, sym, ap, subst, ◌∙◌, append_assoc, ◌⊎◌, inl, inr}
 use Rattle.std.specs.Prelude.{nat_eq, nat_lt, nat_le}
 use Rattle.std.proofs.lemmas.List.{append-nil}
-use Rattle.cr_row.specs.Rows.{Places, IsNext}
+use Rattle.cr_row.specs.Rows.{Places}
 use Rattle.cr_model.specs.declared.notation.NotationFault.{NotationFault}
-use Rattle.cr_model.specs.declared.notation.NotationFault.TheVariants.{Symbol, Above, Order, Gap, CrossOnOdd, Dot, EmptyBlock, SecondComma}
-use Rattle.cr_model.specs.Notation.{Sign, cross, place, dot, comma, other, end_of_text, is_blank, sign_of, signs_of, Item, group, crossing, is_crossing, item_signs, last_named, change_of, changes_of_items, mirrored, IsNamed, IsItem, IsBetween, Follow, IsBlock}
+use Rattle.cr_model.specs.declared.notation.NotationFault.TheVariants.{Above, Order, Gap, CrossOnOdd, EmptyBlock, SecondComma}
+use Rattle.cr_model.specs.Notation.{Sign, cross, place, dot, comma, other, end_of_text, is_blank, sign_of, signs_of, Item, group, crossing, last_named, change_of, changes_of_items, mirrored, IsNamed, Follow, IsBlock}
 use Rattle.cr_notation.specs.declared.reader.Last.{Last}
 use Rattle.cr_notation.specs.declared.reader.Last.TheVariants as last
-use Rattle.cr_notation.specs.Reading.{State, closed_by, closed, more_named, first_named, named_after, place_step, cross_step, dot_after, dot_step, ended, comma_after, comma_step, whole, end_after, end_step, step, byte_step, then_all, read_from, IsOpenBy, IsOpen}
+use Rattle.cr_notation.specs.Reading.{State, closed_by, closed, first_named, named_after, place_step, cross_step, dot_after, dot_step, ended, comma_after, comma_step, whole, end_after, end_step, step, byte_step, then_all, read_from, IsOpenBy, IsOpen}
 use Rattle.cr_notation.proofs.Named.{even_from, at_most_from, next_from, named_more}
 
 -- a test that did not fail

@@ -1,10 +1,10 @@
 -- The places of a change, as they are written.
-use Rattle.std.proofs.Common.{◌≡◌, ◌≢◌, ℕ, zero, suc, ◌+◌, ◌-◌, ◌%◌, ◌<◌, ◌≤◌, Bool, true, false, cond, ◌||◌, ◌&&◌, List, [], ◌∷◌, ◌++◌, length, get_or, drop, map, refl, sym, ap, subst, ◌∙◌, arith, append_assoc}
+use Rattle.std.proofs.Common.{◌≡◌, ℕ, ◌+◌, ◌<◌, ◌≤◌, Bool, true, false, cond, ◌||◌, ◌&&◌, List, [], ◌∷◌, ◌++◌, length, get_or, drop, map, refl, sym, ap, ◌∙◌, arith, append_assoc}
 use Rattle.std.specs.Prelude.{nat_eq, nat_lt}
 use Rattle.std.specs.List.{list_any}
 use Rattle.std.proofs.lemmas.List.{append-nil, drop_more, drop_all}
 use Rattle.std.proofs.lemmas.Bool.Decides.{nat_tests}
-use Rattle.cr_row.specs.Rows.{Places, IsNext, IsChange}
+use Rattle.cr_row.specs.Rows.{Places, IsChange}
 use Rattle.cr_row.specs.Symbols.{symbol_of}
 use Rattle.cr_model.specs.NotationTexts.{places_text, dot_between, canonical_text}
 use Rattle.cr_notation.specs.Writing.{has_places, dot_if, at_least, text_after}

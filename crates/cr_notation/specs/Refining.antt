@@ -1,6 +1,5 @@
 -- What the reader's fields are, as the state of reading.
 use Rattle.std.specs.Prelude.{◌≡◌, ℕ, ◌≤◌, List, [], get_or, Result, Ok, Err}
-use Rattle.cr_row.specs.Rows.{Places}
 use Rattle.cr_model.specs.declared.notation.NotationFault.{NotationFault}
 use Rattle.cr_model.specs.declared.notation.NotationFault.TheVariants.{NoMemory}
 use Rattle.cr_model.specs.Notation.{IsNamed}
@@ -9,6 +8,7 @@ use Rattle.cr_notation.specs.declared.reader.Last.TheVariants as last
 use Rattle.cr_notation.specs.declared.reader.Reader.{Reader}
 use Rattle.cr_notation.specs.Reading.{State, closed}
 
+-- the reader's fields, each list without where it lies in memory
 abbrev pub state_of : Reader → State
 state_of reader = record { comma_seen = reader.comma_seen; done = reader.done.items; block = reader.block.items; named = reader.named.items; last = reader.last }
 
@@ -21,6 +21,7 @@ abbrev pub IsReadyBy : ℕ → Last → List ℕ → Type 0
 IsReadyBy n last.Group named = IsNamed n named × (1 ≤ get_or named 0 0)
 IsReadyBy n _ named = Unit {0}
 
+-- the same, of a state
 abbrev pub IsReady : ℕ → State → Type 0
 IsReady n s = IsReadyBy n s.last s.named
 

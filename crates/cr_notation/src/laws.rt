@@ -27,6 +27,12 @@ pub fn a_text_has_one_first_fault()
     ensures { (n : ℕ) (text : List ℕ) (one other : NotationFault) → FirstFault n text one → FirstFault n text other → one ≡ other }
 {}
 
+/// What a text spells are changes of the stage: the places that are named and implied ascend, and
+/// each stretch of places not made has an even length.
+pub fn spelled_changes_are_changes()
+    ensures { (n : ℕ) (text : List ℕ) (changes : List Places) → Spells n text changes → All (λ change. (change.stage ≡ n) × IsChange change) changes }
+{}
+
 /// The canonical text of 1 to 128 changes of one stage spells them.
 pub fn a_canonical_text_spells_its_changes()
     ensures { (n : ℕ) (changes : List Places) → n ≤ 16 → 1 ≤ length changes → length changes ≤ 128 →

@@ -1,10 +1,9 @@
 //! Reading byte by byte.
 
-ghost use Rattle.std.specs.Prelude.{◌≡◌, ◌≢◌, ℕ, ◌+◌, ◌-◌, ◌%◌, ◌<◌, ◌≤◌, ◌++◌, List, [], length, get_or, IfOk, OnOk, IfErr, Ok, Err};
-ghost use Rattle.cr_row.specs.Rows.{Places};
+ghost use Rattle.std.specs.Prelude.{◌≡◌, ◌≢◌, ◌%◌, ◌≤◌, ◌++◌, [], length, get_or, IfOk, OnOk, IfErr};
 ghost use Rattle.cr_model.specs.Notation.{Spells, is_blank, is_cross, IsNamed, group, change_of, mirrored, first_implied, last_implied, last_named};
 ghost use Rattle.cr_model.specs.NotationFaults.{FirstFault};
-ghost use Rattle.cr_notation.specs.Reading.{fresh, closed, first_named, more_named, place_step, cross_step, dot_step, comma_step, end_step, byte_step, read_all};
+ghost use Rattle.cr_notation.specs.Reading.{fresh, first_named, more_named, place_step, cross_step, dot_step, comma_step, end_step, byte_step, read_all};
 ghost use Rattle.cr_notation.specs.Refining.{state_of, shut, IsReady, Steps, Gives};
 
 use cr_model::notation::NotationFault;
@@ -316,8 +315,11 @@ fn read_bytes(alloc: Global, stage: Stage, bytes: &[u8]) -> Result<Vec<Change>, 
     Ok(changes)
 }
 
-/// The changes that a text of place notation spells on a stage, in the order in which they are rung,
-/// and else its first fault. Only want of memory may come beside.
+/// The changes that a text of place notation spells on a stage, 1 to 128 of them, in the order in which
+/// they are rung.
+///
+/// Any other text is refused with its first fault from the left, and the place of the byte at which it
+/// comes, counted from 0. `NoMemory` comes where no memory is left, and says nothing about the text.
 pub fn read_notation(alloc: Global, stage: Stage, text: &str) -> Result<Vec<Change>, NotationFault>
     ensures spelled { IfOk result (λ changes. Spells stage text.now changes.items) }
     ensures refused { IfErr result (λ fault. fault ≢ NotationFault.NoMemory → FirstFault stage text.now fault) }

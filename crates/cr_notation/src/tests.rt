@@ -109,3 +109,88 @@ fn texts_stand_for_changes(rt: HostRuntime) -> Result<(), Fail> {
     }
     Ok(())
 }
+
+const FAULTS: [(u8, &str, NotationFault); 25] = [
+    (5, "+5.1", NotationFault::Symbol(0)),
+    (16, "1.F", NotationFault::Symbol(2)),
+    (16, "x e", NotationFault::Symbol(2)),
+    (4, "1 5", NotationFault::Above(2)),
+    (4, "35", NotationFault::Above(1)),
+    (11, "T1", NotationFault::Above(0)),
+    (6, "4 61 8", NotationFault::Gap(2)),
+    (4, "21", NotationFault::Order(1)),
+    (4, "2 2", NotationFault::Order(2)),
+    (4, "13", NotationFault::Gap(1)),
+    (6, "12x1\t5", NotationFault::Gap(5)),
+    (5, "x36x14x12x36x14x56,12", NotationFault::CrossOnOdd(0)),
+    (5, "5.-", NotationFault::CrossOnOdd(2)),
+    (4, "x..x", NotationFault::Dot(2)),
+    (4, " .x", NotationFault::Dot(1)),
+    (4, "x,.x", NotationFault::Dot(2)),
+    (4, "x. ,12", NotationFault::Dot(1)),
+    (4, "x. ", NotationFault::Dot(1)),
+    (4, "x,1.,", NotationFault::Dot(3)),
+    (4, "", NotationFault::EmptyBlock(0)),
+    (4, " \t", NotationFault::EmptyBlock(2)),
+    (4, ",x", NotationFault::EmptyBlock(0)),
+    (4, "x, ", NotationFault::EmptyBlock(3)),
+    (4, "x,1,2", NotationFault::SecondComma(3)),
+    (4, "x,,", NotationFault::SecondComma(2)),
+];
+
+#[test]
+fn faults_come_at_their_bytes(rt: HostRuntime) -> Result<(), Fail> {
+    for (stage, text, fault) in &FAULTS {
+        let found = answer(rt.alloc(), *stage, text).err().ok_or("a fault")?;
+        assert!(rt; found == Some(*fault), "at {text}");
+    }
+    Ok(())
+}
+
+// How many changes so many crosses spell, with what stands behind them.
+fn number_of(alloc: Global, crosses_before: u32, rest: &str) -> Result<usize, NotationFault> {
+    let stage = Stage::new(4).ok_or(NotationFault::NoMemory)?;
+    let text = crosses(alloc, crosses_before, rest)?;
+    let changes = read_notation(alloc, stage, &text)?;
+    Ok(changes.len())
+}
+
+#[test]
+fn at_most_128_changes(rt: HostRuntime) {
+    assert!(rt; number_of(rt.alloc(), 128, "") == Ok(128));
+    assert!(rt; number_of(rt.alloc(), 129, "") == Err(NotationFault::Long(129)));
+    assert!(rt; number_of(rt.alloc(), 64, ",x") == Ok(128));
+    assert!(rt; number_of(rt.alloc(), 65, ",x") == Err(NotationFault::Long(67)));
+    assert!(rt; number_of(rt.alloc(), 64, ",x14") == Err(NotationFault::Long(68)));
+}
+
+// The text that is written for what a text spells.
+fn rewritten(alloc: Global, stage: u8, text: &str) -> Result<String, &'static str> {
+    let stage = Stage::new(stage).ok_or("no stage")?;
+    let changes = read_notation(alloc, stage, text).ok().ok_or("no text")?;
+    if changes.is_empty() || changes.len() > 128 {
+        return Err("no number of changes");
+    }
+    if changes.iter().any(|change| change.stage() != stage) {
+        return Err("another stage");
+    }
+    write_notation(alloc, stage, &changes)
+        .ok()
+        .ok_or("no memory")
+}
+
+const REWRITTEN: [(u8, &str, &str); 4] = [
+    (4, "x14x14,12", "x14x14x14x12"),
+    (5, "3,1.5.1.5.1", "3.1.5.1.5.1.5.1.5.1"),
+    (6, "-.4. X 2.3456", "x14x12.3456"),
+    (16, "x.T.D", "x1T.1D"),
+];
+
+#[test]
+fn canonical_texts(rt: HostRuntime) -> Result<(), Fail> {
+    for (stage, text, want) in &REWRITTEN {
+        let written = rewritten(rt.alloc(), *stage, text)?;
+        assert_eq!(rt; written.as_str(), *want, "at {text}");
+    }
+    Ok(())
+}

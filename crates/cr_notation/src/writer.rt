@@ -1,7 +1,7 @@
 //! The one spelling that is written.
 
-ghost use Rattle.std.specs.Prelude.{◌≡◌, ◌≢◌, ℕ, ◌+◌, ◌<◌, ◌≤◌, ◌++◌, List, [], ◌∷◌, length, cond, IfOk, OnOk, All, string_bytes, IsTrue, ◌↔◌, ◌&&◌, map};
-ghost use Rattle.cr_row.specs.Rows.{Places, IsChange};
+ghost use Rattle.std.specs.Prelude.{◌≡◌, ◌≤◌, ◌++◌, [], ◌∷◌, length, IfOk, OnOk, All, string_bytes, ◌&&◌, map};
+ghost use Rattle.cr_row.specs.Rows.{IsChange};
 ghost use Rattle.cr_row.specs.Symbols.{symbol_of};
 ghost use Rattle.cr_notation.specs.Writing.{has_places, dot_if};
 ghost use Rattle.cr_model.specs.Notation.{Spells};

@@ -2,3 +2,5 @@ pub mod Ringing
 pub mod PlainTouches
 pub mod PlainBooks
 pub mod Steps
+pub mod Completeness
+pub mod Noting

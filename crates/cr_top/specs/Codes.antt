@@ -6,6 +6,7 @@ use Rattle.cr_top.specs.declared.status.Status.TheVariants as ended
 abbrev pub code_of : Status → ℕ
 code_of ended.Finished = 0
 code_of ended.Words = 2
+code_of (ended.Problem fault) = 4
 code_of ended.ReadFault = 6
 code_of ended.WriteFault = 7
 code_of ended.NoMemory = 8

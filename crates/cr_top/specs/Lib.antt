@@ -1,4 +1,6 @@
 pub mod Codes
 pub mod Endings
+pub mod Lines
+pub mod Noted
 pub mod Plain
 pub mod Words

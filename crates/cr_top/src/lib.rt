@@ -2,7 +2,9 @@
 #![tactic(auto)]
 
 mod book;
-mod form;
+mod notes;
+#[cfg(test)]
+mod notes_tests;
 mod search;
 mod status;
 #[cfg(test)]

@@ -1,8 +1,8 @@
-use super::{Status, ringsearch};
+use super::ringsearch;
 use crate::book::calling_text;
 use crate::search::is_plain;
 use crate::top::searched;
-use cr_io::{MemSink, MemSource, SureSink};
+use cr_io::{MemSink, MemSource};
 use cr_model::{Lead, Problem, Query, Step};
 use cr_row::{Change, Stage};
 use std::process::Abort;
@@ -201,21 +201,41 @@ fn texts_of_several_steps(rt: HostRuntime) -> Result<(), Fail> {
     Ok(())
 }
 
-const FILE: &str =
-    "stage = 4\n[[method]]\nletter = \"A\"\nnotation = \"x14x14x14x12\"\n[query]\nmin = 1\nmax = 24\n";
+const MINIMUS_FILE: &str =
+    "stage = 4\n[[method]]\nletter = \"A\"\nnotation = \"x14x14,12\"\n[query]\nmin = 1\nmax = 24\n";
 
 const SHORTER: &str =
     "stage = 4\n[[method]]\nletter = \"A\"\nnotation = \"x14x14x14x12\"\n[query]\nmin = 1\nmax = 23\n";
 
+const GRANDSIRE_FILE: &str =
+    "stage = 5\n[[method]]\nletter = \"G\"\nnotation = \"3,1.5.1.5.1\"\nname = \"Grandsire\"\n[query]\nmin = 1\nmax = 30\nparts = 1\n";
+
+const BOBS: &str =
+    "stage = 5\n[[method]]\nletter = \"A\"\nnotation = \"5.1.5.1.5,125\"\n[[call]]\nmark = \"b\"\nnotation = \"145\"\n[query]\nmin = 1\nmax = 120\n";
+
+const DEEP: &str =
+    "stage = 8\n[[method]]\nletter = \"A\"\nnotation = \"x\"\n[query]\nmin = 1\nmax = 1025\n";
+
+const ODD: &str =
+    "stage = 5\n[[method]]\nletter = \"A\"\nnotation = \"x14\"\n[query]\nmin = 1\nmax = 24\n";
+
 const DONE: &[u8] = b"24 ppp\ntouches 1\n";
 
-// One call of the whole, with the numbers of the calls of the source and the sink that fail: how it ends, and what is written.
+// What a call of the whole leaves: the status' code, what was written, and the note.
+#[derive(Drop)]
+struct Ended {
+    code: u8,
+    written: &'static [u8],
+    note: &'static [u8],
+}
+
+// One call of the whole, with the numbers of the calls of the source, the sink and the notes that fail.
 fn run<R: AllocGlobal + Abort>(
     rt: &R,
     words: &[&str],
     input: &str,
-    fails: (u64, u64),
-    want: (Status, &[u8]),
+    fails: (u64, u64, u64),
+    want: &Ended,
 ) -> Result<(), Fail> {
     let mut list = Vec::new(rt.alloc());
     for word in words {
@@ -224,65 +244,116 @@ fn run<R: AllocGlobal + Abort>(
     let bytes = input.as_bytes().to_vec(rt.alloc())?;
     let mut source = MemSource::new(bytes, [fails.0].to_vec(rt.alloc())?, 50);
     let mut sink = MemSink::new(rt.alloc(), [fails.1].to_vec(rt.alloc())?, 10);
-    let mut notes = SureSink::new(rt.alloc());
+    let mut notes = MemSink::new(rt.alloc(), [fails.2].to_vec(rt.alloc())?, 100);
     let status = ringsearch(rt, &list, &mut source, &mut sink, &mut notes);
-    assert_eq!(rt; status, want.0);
-    assert_eq!(rt; sink.bytes(), Some(want.1));
-    assert_eq!(rt; notes.bytes(), Some(b"".as_slice()));
+    assert_eq!(rt; status.code(), want.code);
+    assert_eq!(rt; sink.bytes(), Some(want.written));
+    assert_eq!(rt; notes.bytes(), Some(want.note));
     Ok(())
 }
 
 #[test]
 fn runs_from_bytes_to_bytes(rt: HostRuntime) -> Result<(), Fail> {
-    let table: [(&'static str, Status, &'static [u8]); 5] = [
-        (FILE, Status::Finished, DONE),
-        (SHORTER, Status::Finished, b"touches 0\n"),
-        ("stage =", Status::Unbuilt, b""),
-        ("", Status::Unbuilt, b""),
-        ("ringsearch checkpoint 1\n", Status::Unbuilt, b""),
+    let table: [(&'static str, u8, &'static [u8], &'static [u8]); 9] = [
+        (MINIMUS_FILE, 0, DONE, b""),
+        (SHORTER, 0, b"touches 0\n", b""),
+        (GRANDSIRE_FILE, 0, b"30 ppp\ntouches 1\n", b""),
+        (BOBS, 90, b"", b"ringsearch: unbuilt\n"),
+        (
+            "ringsearch checkpoint 1\n",
+            90,
+            b"",
+            b"ringsearch: unbuilt\n",
+        ),
+        ("stage =", 4, b"", b"ringsearch: problem 1 NotToml\n"),
+        ("", 4, b"", b"ringsearch: problem 2 Key stage\n"),
+        (DEEP, 4, b"", b"ringsearch: problem 12 Deep 1025\n"),
+        (
+            ODD,
+            4,
+            b"",
+            b"ringsearch: problem 5 Notation method 0 CrossOnOdd 0\n",
+        ),
     ];
-    for (input, status, written) in table {
-        run(&rt, &[], input, (0, 0), (status, written))?;
+    for (input, code, written, note) in table {
+        run(
+            &rt,
+            &[],
+            input,
+            (0, 0, 0),
+            &Ended {
+                code,
+                written,
+                note,
+            },
+        )?;
     }
     Ok(())
 }
+
+const ENDED_WELL: Ended = Ended {
+    code: 0,
+    written: DONE,
+    note: b"",
+};
+
+const REFUSED_WORDS: Ended = Ended {
+    code: 2,
+    written: b"",
+    note: b"ringsearch: words 1 Line\n",
+};
+
+const NOT_READ: Ended = Ended {
+    code: 6,
+    written: b"",
+    note: b"ringsearch: read failed\n",
+};
+
+const NOT_WRITTEN: Ended = Ended {
+    code: 7,
+    written: b"",
+    note: b"ringsearch: write failed\n",
+};
+
+const HALF_WRITTEN: Ended = Ended {
+    code: 7,
+    written: b"24 ppp\ntou",
+    note: b"ringsearch: write failed\n",
+};
+
+const NOT_NOTED: Ended = Ended {
+    code: 6,
+    written: b"",
+    note: b"",
+};
 
 #[test]
 fn words_and_faults(rt: HostRuntime) -> Result<(), Fail> {
     run(
         &rt,
         &["--do", "search"],
-        FILE,
-        (0, 0),
-        (Status::Finished, DONE),
+        MINIMUS_FILE,
+        (0, 0, 0),
+        &ENDED_WELL,
     )?;
-    run(&rt, &["--do", "make"], FILE, (0, 0), (Status::Words, b""))?;
-    run(&rt, &["--do"], FILE, (0, 0), (Status::Words, b""))?;
+    run(
+        &rt,
+        &["--do", "make"],
+        MINIMUS_FILE,
+        (0, 0, 0),
+        &REFUSED_WORDS,
+    )?;
+    run(&rt, &["--do"], MINIMUS_FILE, (0, 0, 0), &REFUSED_WORDS)?;
     run(
         &rt,
         &["--do", "search", ""],
-        FILE,
-        (0, 0),
-        (Status::Words, b""),
+        MINIMUS_FILE,
+        (0, 0, 0),
+        &REFUSED_WORDS,
     )?;
-    run(&rt, &[], FILE, (1, 0), (Status::ReadFault, b""))?;
-    run(&rt, &[], FILE, (2, 0), (Status::ReadFault, b""))?;
-    run(&rt, &[], FILE, (0, 1), (Status::WriteFault, b""))?;
-    run(&rt, &[], FILE, (0, 2), (Status::WriteFault, b"24 ppp\ntou"))
-}
-
-#[test]
-fn codes_of_statuses(rt: HostRuntime) {
-    let table = [
-        (Status::Finished, 0),
-        (Status::Words, 2),
-        (Status::ReadFault, 6),
-        (Status::WriteFault, 7),
-        (Status::NoMemory, 8),
-        (Status::TooLong, 9),
-        (Status::Unbuilt, 90),
-    ];
-    for (status, code) in table {
-        assert_eq!(rt; status.code(), code);
-    }
+    run(&rt, &[], MINIMUS_FILE, (1, 0, 0), &NOT_READ)?;
+    run(&rt, &[], MINIMUS_FILE, (2, 0, 0), &NOT_READ)?;
+    run(&rt, &[], MINIMUS_FILE, (0, 1, 0), &NOT_WRITTEN)?;
+    run(&rt, &[], MINIMUS_FILE, (0, 2, 0), &HALF_WRITTEN)?;
+    run(&rt, &[], MINIMUS_FILE, (1, 0, 1), &NOT_NOTED)
 }

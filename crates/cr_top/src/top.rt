@@ -1,19 +1,24 @@
 //! The top call.
 
-ghost use Rattle.std.specs.Prelude.{◌≡◌, ◌≤◌, ◌^◌, ◌↔◌, List, [], ◌∷◌, length, map, string_bytes, IfOk};
-ghost use Rattle.cr_io.specs.Ends.{TakesWithin};
+ghost use Rattle.std.specs.Prelude.{◌≡◌, ◌≢◌, ℕ, ◌^◌, ◌≤◌, ◌⊎◌, ◌↔◌, Some, List, [], ◌∷◌, length, map, string_bytes, IfOk};
 ghost use Rattle.cr_io.specs.Causes.{Rose};
+ghost use Rattle.cr_model.specs.Problems.{ProblemParts};
+ghost use Rattle.cr_model.specs.ProblemFiles.{ProblemFile};
+ghost use Rattle.cr_model.specs.Books.{IsBook, book_text};
 ghost use Rattle.cr_top.specs.Words.{IsAccepted};
 ghost use Rattle.cr_top.specs.Plain.{IsPlain};
-ghost use Rattle.cr_top.specs.Endings.{Reads, Writes, Makes, MakesOfBytes, IsBookText};
+ghost use Rattle.cr_top.specs.Lines.{note_line};
+ghost use Rattle.cr_top.specs.Noted.{AppendsFront};
+ghost use Rattle.cr_top.specs.Endings.{IsCheckpoint, IsBookOf, ReadsInput, MakesText, Ends};
 
 use crate::Status;
 use crate::book::book_text;
-use crate::form::{FormEnd, read_form};
+use crate::notes::write_note;
 use crate::search::{is_plain, plain_book};
 use crate::words::are_accepted;
 use cr_io::{ReadEnd, Sink, Source, WriteFault, read_all, write_whole};
-use cr_model::Problem;
+use cr_model::{Problem, ProblemFault};
+use cr_read::{bytes_have_one_answer, read_problem};
 use cr_row::NoMemory;
 use std::alloc::Global;
 
@@ -22,7 +27,7 @@ const MOST_BYTES: u64 = 1_099_511_627_776;
 
 /// Does all that the program does: reads a problem from the source, searches it, and writes its book to the sink.
 ///
-/// Nothing is written before the whole text is made, and nothing is written to the notes yet.
+/// Nothing is written before the whole text is made. Each status but `Finished` writes its line to the notes; a fault of theirs ends the line and changes no status.
 pub fn ringsearch<R: AllocGlobal, S: Source, K: Sink, N: Sink>(
     rt: &R,
     words: &[String],
@@ -31,16 +36,44 @@ pub fn ringsearch<R: AllocGlobal, S: Source, K: Sink, N: Sink>(
     notes: &mut N,
 ) -> Status
     ensures words { result ≡ Status.Words ↔ (IsAccepted (map string_bytes words.now) → ⊥) }
-    ensures reads { Reads S.took S.faults source.old source.new result }
-    ensures writes { Writes K.grew K.faults sink.old sink.new result }
+    ensures ends { Ends S.took S.left S.faults source.old source.new K.grew K.faults sink.old sink.new result }
+    ensures complete { IsAccepted (map string_bytes words.now) → (input : List ℕ) → S.left source.old ≡ Some input → length input ≤ 2 ^ 40 → (IsCheckpoint input → ⊥)
+        → (p : ProblemParts) → ProblemFile input p → IsPlain p
+        → (Rose (S.faults source.old) (S.faults source.new) → ⊥) → (Rose (K.faults sink.old) (K.faults sink.new) → ⊥)
+        → (result ≡ Status.Finished) ⊎ (result ≡ Status.NoMemory) }
+    ensures noted { AppendsFront N.grew notes.old notes.new (note_line result) }
+    ensures noted_whole { (Rose (N.faults notes.old) (N.faults notes.new) → ⊥) → N.grew notes.old notes.new (note_line result) }
+    ensures silent { result ≡ Status.Finished → notes.new ≡ notes.old }
     ensures source_later { S.faults source.old ≤ S.faults source.new }
     ensures sink_later { K.faults sink.old ≤ K.faults sink.new }
-    ensures notes { N.grew notes.old notes.new [] }
+    ensures notes_later { N.faults notes.old ≤ N.faults notes.new }
+{
+    bytes_have_one_answer();
+    let status = ended(rt.alloc(), words, source, sink);
+    write_note(notes, &status);
+    status
+}
+
+// How the call ends, before the notes are written.
+fn ended<S: Source, K: Sink>(
+    alloc: Global,
+    words: &[String],
+    source: &mut S,
+    sink: &mut K,
+) -> Status
+    ensures words { result ≡ Status.Words ↔ (IsAccepted (map string_bytes words.now) → ⊥) }
+    ensures ends { Ends S.took S.left S.faults source.old source.new K.grew K.faults sink.old sink.new result }
+    ensures source_later { S.faults source.old ≤ S.faults source.new }
+    ensures sink_later { K.faults sink.old ≤ K.faults sink.new }
 {
     if !are_accepted(words) {
         return Status::Words;
     }
-    match text_of(rt.alloc(), source) {
+    let input = match input_of(alloc, source) {
+        Ok(input) => input,
+        Err(status) => return status,
+    };
+    match text_for(alloc, &input) {
         Ok(text) => match write_whole(sink, &text) {
             Ok(()) => Status::Finished,
             Err(WriteFault) => Status::WriteFault,
@@ -49,46 +82,52 @@ pub fn ringsearch<R: AllocGlobal, S: Source, K: Sink, N: Sink>(
     }
 }
 
-// The text of the book of the problem that the source holds.
-fn text_of<S: Source>(alloc: Global, source: &mut S) -> Result<Vec<u8>, Status>
-    ensures makes { Makes S.took S.faults source.old source.new result }
+// All that is left in the source.
+fn input_of<S: Source>(alloc: Global, source: &mut S) -> Result<Vec<u8>, Status>
+    ensures reads { ReadsInput S.took S.left S.faults source.old source.new result }
     ensures later { S.faults source.old ≤ S.faults source.new }
 {
-    let bytes = match read_all(alloc, source, MOST_BYTES) {
-        Ok(bytes) => bytes,
-        Err(ReadEnd::ReadFault) => return Err(Status::ReadFault),
-        Err(ReadEnd::TooLong) => return Err(Status::TooLong),
-        Err(ReadEnd::NoMemory) => return Err(Status::NoMemory),
-    };
-    book_of(alloc, &bytes)
+    match read_all(alloc, source, MOST_BYTES) {
+        Ok(input) => Ok(input),
+        Err(ReadEnd::ReadFault) => Err(Status::ReadFault),
+        Err(ReadEnd::TooLong) => Err(Status::TooLong),
+        Err(ReadEnd::NoMemory) => Err(Status::NoMemory),
+    }
 }
 
-// The text of the book of the problem that the bytes say.
-fn book_of(alloc: Global, bytes: &[u8]) -> Result<Vec<u8>, Status>
-    ensures { MakesOfBytes result }
+// The text of the book of the problem that the input says.
+fn text_for(alloc: Global, input: &[u8]) -> Result<Vec<u8>, Status>
+    ensures { MakesText input.now result }
 {
-    let problem = match read_form(alloc, bytes) {
-        Ok(problem) => problem,
-        Err(FormEnd::NoMemory) => return Err(Status::NoMemory),
-        Err(FormEnd::Other) => return Err(Status::Unbuilt),
-    };
-    if is_plain(&problem) {
-        searched(alloc, &problem)
-    } else {
-        Err(Status::Unbuilt)
+    if input.starts_with(b"ringsearch checkpoint ") {
+        return Err(Status::Unbuilt);
+    }
+    match read_problem(alloc, input) {
+        Ok(problem) => text_of(alloc, input, &problem),
+        Err(ProblemFault::NoMemory) => Err(Status::NoMemory),
+        Err(fault) => Err(Status::Problem(fault)),
+    }
+}
+
+// The text of the book of the input's problem.
+fn text_of(alloc: Global, input: &[u8], problem: &Problem) -> Result<Vec<u8>, Status>
+    requires { ProblemFile input.now problem.now }
+    ensures { MakesText input.now result }
+{
+    if !is_plain(problem) {
+        return Err(Status::Unbuilt);
+    }
+    match searched(alloc, problem) {
+        Ok(text) => Ok(text),
+        Err(NoMemory) => Err(Status::NoMemory),
     }
 }
 
 /// The text of the book of a problem that the search takes.
-pub fn searched(alloc: Global, problem: &Problem) -> Result<Vec<u8>, Status>
+pub fn searched(alloc: Global, problem: &Problem) -> Result<Vec<u8>, NoMemory>
     requires { IsPlain problem.now }
-    ensures { MakesOfBytes result }
+    ensures { IfOk result (λ text. (book : List (List ℕ)) × IsBook problem.now [] ([] ∷ []) book × (text.items ≡ book_text problem.now book)) }
 {
-    let Ok(book) = plain_book(alloc, problem) else {
-        return Err(Status::NoMemory);
-    };
-    match book_text(alloc, problem, &book) {
-        Ok(text) => Ok(text),
-        Err(NoMemory) => Err(Status::NoMemory),
-    }
+    let book = plain_book(alloc, problem)?;
+    book_text(alloc, problem, &book)
 }

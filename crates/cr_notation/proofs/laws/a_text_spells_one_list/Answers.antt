@@ -1,4 +1,3 @@
-use Rattle.cr_notation.proofs.Chains.{group_is_change}
 use Rattle.cr_notation.proofs.Decided.{same_changes}
 use Rattle.cr_notation.proofs.laws.a_text_spells_one_list.Goals as goal
 

@@ -1,4 +1,4 @@
-use Rattle.std.proofs.Common.{◌≡◌, length, get_or, ◌-◌, ◌++◌, vec_len, arith, ◌∙◌, ◌≤◌, ◌<◌}
+use Rattle.std.proofs.Common.{length, ◌++◌, arith, ◌∙◌, ◌≤◌, ◌<◌}
 use Rattle.cr_notation.proofs.Mirrors.{mirrored_more}
 use Rattle.cr_notation.proofs.reader.append_mirrored.Goals as goal
 

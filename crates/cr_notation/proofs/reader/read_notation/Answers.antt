@@ -1,7 +1,3 @@
-use Rattle.std.proofs.Common.{◌≡◌, subst}
-use Rattle.cr_model.specs.Notation.{Spells}
-use Rattle.cr_notation.specs.Refining.{Gives}
-use Rattle.cr_notation.specs.Reading.{read_all}
 use Rattle.cr_notation.proofs.Refined.{spelled, refused}
 use Rattle.cr_notation.proofs.reader.read_notation.Goals as goal
 

@@ -1,5 +1,5 @@
-use Rattle.std.proofs.Common.{◌≡◌, ◌<◌, ◌∙◌, refl, sym, ap, arith, false, []}
-use Rattle.cr_notation.specs.Writing.{at_least, has_places}
+use Rattle.std.proofs.Common.{◌<◌, ◌∙◌, sym, ap, arith}
+use Rattle.cr_notation.specs.Writing.{has_places}
 use Rattle.cr_notation.proofs.Written.{place_left_out, last_of_change}
 use Rattle.cr_notation.proofs.writer.makes_some.Goals as goal
 

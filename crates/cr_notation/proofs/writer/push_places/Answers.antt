@@ -1,4 +1,4 @@
-use Rattle.std.proofs.Common.{◌≡◌, ◌+◌, ◌<◌, ◌++◌, ◌∙◌, refl, sym, ap, subst, arith, map, string_bytes}
+use Rattle.std.proofs.Common.{◌+◌, ◌<◌, ◌++◌, ◌∙◌, sym, ap, arith, map, string_bytes}
 use Rattle.cr_row.specs.Symbols.{symbol_of}
 use Rattle.cr_notation.specs.Writing.{at_least}
 use Rattle.cr_notation.proofs.Written.{first_of_change, last_of_change, place_written, place_not_written, places_written}

@@ -1,7 +1,5 @@
-use Rattle.std.proofs.Common.{◌≡◌, refl, sym, subst, ◌∙◌, false}
-use Rattle.cr_model.specs.Notation.{is_blank, is_cross}
+use Rattle.std.proofs.Common.{refl, sym, subst}
 use Rattle.cr_notation.specs.Refining.{Steps, state_of}
-use Rattle.cr_notation.specs.Reading.{byte_step}
 use Rattle.cr_notation.proofs.Signs.{place_byte, other_byte}
 use Rattle.cr_notation.proofs.reader.Reader.take.Goals as goal
 

@@ -1,0 +1,16 @@
+pub mod AllKeys
+pub mod Arrays
+pub mod CallFacts
+pub mod Cells
+pub mod Exact
+pub mod LeadsRight
+pub mod MethodsThere
+pub mod OneAnswer
+pub mod Ranges
+pub mod Spelled
+pub mod Staged
+pub mod StepOrder
+pub mod UnknownKeys
+mod OneFileKnown
+mod OneFileTaken
+pub mod TheSteps

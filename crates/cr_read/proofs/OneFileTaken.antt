@@ -1,0 +1,244 @@
+-- Bytes always have an answer: they are a problem file, or have a first fault.
+use Rattle.std.proofs.Common.{◌≡◌, ℕ, zero, suc, ◌/◌, ◌<◌, ◌≤◌, ◌⊎◌, pos, ◌≤ℤ◌, nat_abs, Bool, true, false, Option, Some, None, List, [], ◌∷◌, length, get_or, IsUtf8, refl, sym, ◌∙◌, arith, inl, inr}
+use Rattle.std.specs.List.{AllZip}
+use Rattle.std.specs.Str.{is_utf8}
+use Rattle.std.proofs.lemmas.Int.{ints}
+use Rattle.std.proofs.lemmas.Bool.{cases_lt, false≢true}
+use Rattle.std.proofs.lemmas.Str.{IsUtf8-from_is_utf8, is_utf8-from_IsUtf8}
+use Rattle.toml.specs.Data.{Members}
+use Rattle.toml.specs.Parse.{parse_document}
+use Rattle.cr_row.specs.Rows.{Places}
+use Rattle.cr_model.specs.declared.fault.CountAt.TheVariants as counted
+use Rattle.cr_model.specs.declared.notation.NotationFault.{NotationFault}
+use Rattle.cr_model.specs.declared.file_fault.Whose.TheVariants as whose
+use Rattle.cr_model.specs.declared.file_fault.ProblemFault.{ProblemFault}
+use Rattle.cr_model.specs.declared.file_fault.ProblemFault.TheVariants as fault
+use Rattle.cr_model.specs.Problems.{ProblemParts}
+use Rattle.cr_model.specs.Callings.{shortest}
+use Rattle.cr_model.specs.Queries.{cap}
+use Rattle.cr_model.specs.Sound.{LetterIsRight, CountIsRight, count_at, MethodCountIsRight, method_count_at, PatternIsRight, pattern_at, IsSound}
+use Rattle.cr_model.specs.Faults.{LeadsPass, StepsPass, RangePasses, DepthPasses, PartsPass, CountsPass, MethodCountsPass, PatternsPass}
+use Rattle.cr_model.specs.Notation.{Spells}
+use Rattle.cr_model.specs.NotationFaults.{FirstFault}
+use Rattle.cr_model.specs.Keys.{key_faults}
+use Rattle.cr_model.specs.Files.{FileParts, file_of, Reads, IsFile}
+use Rattle.cr_model.specs.ProblemFiles.{Tunes, letters_of, method_texts, call_texts, mark_at, is_for, OverIsRight, MarkIsRight, Fits, FitsAll, AreApart, parts_of, StagePasses, LettersPass, MethodsSpell, CallsSpell, OversPass, MarksPass, LengthsPass, CallsPass, Makes, ProblemFile, IsSpelled, IsFirstUnspelled, IsFileFault, FirstProblemFault}
+use Rattle.cr_read.proofs.LeadsRight.{leads_right, letters_right}
+use Rattle.cr_read.proofs.MethodsThere.{some_methods}
+use Rattle.cr_read.proofs.OneFileKnown.{known_le_int, first_wrong, known_each, known_letter, known_over, known_mark, known_fit, known_fits, known_apart, known_limits, known_count, known_method_count, known_pattern, known_com}
+
+-- What is known of notation: a text spells changes, or has a first fault.
+abbrev pub TakenOrRefused : Type 0
+TakenOrRefused = (n : ℕ) (text : List ℕ) → ((changes : List Places) × Spells n text changes) ⊎ ((why : NotationFault) × FirstFault n text why)
+
+-- a number from 3 to 16 is one of ours
+staged : (file : FileParts) → pos 3 ≤ℤ file.stage → file.stage ≤ℤ pos 16 → StagePasses file (nat_abs file.stage)
+staged file from to = record { is = omega (arith, ints); from = omega (arith, ints); to = omega (arith, ints) }
+
+none_or_some : {A : Type 0} (r : Option A) (x : A) → r ≡ None → r ≡ Some x → ⊥
+none_or_some r x a b = cc
+
+-- a fault behind a text that spells changes
+later : (n : ℕ) (text : List ℕ) (texts : List (List ℕ)) (i : ℕ) (why : NotationFault) → IsSpelled n text → IsFirstUnspelled n texts i why → IsFirstUnspelled n (text ∷ texts) (suc i) why
+later n text texts i why spelled first = record { within = (let low : i < length texts = first.within in omega arith); before = before; wrong = first.wrong }
+  where
+    before : (j : ℕ) → j < suc i → IsSpelled n (get_or (text ∷ texts) j [])
+    before zero h = spelled
+    before (suc j) h = first.before j (omega arith)
+
+-- the values make a problem, or have a fault
+abbrev Answer : FileParts → Type 0
+Answer file = ((p : ProblemParts) × Makes file p × IsSound p) ⊎ ((f : ProblemFault) × IsFileFault file f)
+
+module _ (file : FileParts) (p : ProblemParts) (makes : Makes file p) where
+  after_patterns : PatternsPass p → Answer file
+  after_patterns h = elim (known_com p.query.com) [
+    | inl right ↦
+        let counts = h.before.before in
+        let parts = counts.before in
+        let range = parts.before.before in
+        let leads = range.before.before in
+        inl (
+          p,
+          makes,
+          record {
+            letters = leads.before;
+            leads = leads.leads;
+            few = range.before.few;
+            range = range.range;
+            shallow = parts.before.shallow;
+            parts_from = parts.from;
+            parts_to = parts.to;
+            counts = counts.counts;
+            method_counts = h.before.method_counts;
+            patterns = h.patterns;
+            limits = right;
+          },
+        )
+    | inr wrong ↦ inr (fault.Com, (p, makes, (h, wrong)))
+  ]
+
+  after_method_counts : MethodCountsPass p → Answer file
+  after_method_counts h = elim (first_wrong (λ i. PatternIsRight p.stage i (pattern_at p.query.patterns i)) (λ i. known_pattern p.stage i (pattern_at p.query.patterns i)) (length p.query.patterns)) [
+    | inl all ↦ after_patterns (record { before = h; patterns = all })
+    | inr first ↦ inr (fault.Pattern first.0, (p, makes, (h, first.1)))
+  ]
+
+  after_counts : CountsPass p → Answer file
+  after_counts h = elim (first_wrong (λ i. MethodCountIsRight p.letters i (method_count_at p.query.method_counts i)) (λ i. known_method_count p.letters i (method_count_at p.query.method_counts i)) (length p.query.method_counts)) [
+    | inl all ↦ after_method_counts (record { before = h; method_counts = all })
+    | inr first ↦ inr (fault.Count (counted.Method first.0), (p, makes, (h, first.1)))
+  ]
+
+  after_parts : PartsPass p → Answer file
+  after_parts h = elim (first_wrong (λ i. CountIsRight p.leads i (count_at p.query.counts i)) (λ i. known_count p.leads i (count_at p.query.counts i)) (length p.query.counts)) [
+    | inl all ↦ after_counts (record { before = h; counts = all })
+    | inr first ↦ inr (fault.Count (counted.Mark first.0), (p, makes, (h, first.1)))
+  ]
+
+  after_depth : DepthPasses p → Answer file
+  after_depth h = elim (known_le_int (pos 1) p.query.parts) [
+    | inl from ↦ elim (known_le_int p.query.parts (pos 64)) [
+      | inl to ↦ after_parts (record { before = h; from = from; to = to })
+      | inr over ↦ inr (fault.Parts p.query.parts, (p, makes, (h, refl, λ right. over right.1)))
+    ]
+    | inr under ↦ inr (fault.Parts p.query.parts, (p, makes, (h, refl, λ right. under right.0)))
+  ]
+
+  after_range : RangePasses p → Answer file
+  after_range h = elim (cases_lt 1024 (cap p / shortest p)) [
+    | inl deep ↦ inr (fault.Deep (cap p / shortest p), (p, makes, (h, refl, deep)))
+    | inr shallow ↦ after_depth (record { before = h; shallow = shallow })
+  ]
+
+  after_steps : StepsPass p → Answer file
+  after_steps h = elim (known_limits (pos 1) p.query.min p.query.max) [
+    | inl range ↦ after_range (record { before = h; range = range })
+    | inr wrong ↦ inr (fault.Range p.query.min p.query.max, (p, makes, (h, refl, refl, wrong)))
+  ]
+
+  after_leads : LeadsPass p → Answer file
+  after_leads h = elim (cases_lt 24 (length p.leads)) [
+    | inl many ↦ inr (fault.Steps (length p.leads), (p, makes, (h, refl, many)))
+    | inr few ↦ after_steps (record { before = h; few = few })
+  ]
+
+-- the texts spell changes, or one is the first that does not
+spelled_or : TakenOrRefused → (n : ℕ) (texts : List (List ℕ)) → ((tunes : List (List Places)) × AllZip (Spells n) texts tunes) ⊎ ((i : ℕ) × (why : NotationFault) × IsFirstUnspelled n texts i why)
+spelled_or taken n [] = inl ([], tt)
+spelled_or taken n (text ∷ texts) = elim (taken n text) [
+  | inl spelled ↦ elim (spelled_or taken n texts) [
+    | inl tunes ↦ inl (spelled.0 ∷ tunes.0, (spelled.1, tunes.1))
+    | inr first ↦ inr (suc first.0, first.1, later n text texts first.0 first.1 spelled first.2)
+  ]
+  | inr fault ↦ inr (0, fault.0, record { within = omega arith; before = λ j h. absurd (omega arith); wrong = fault.1 })
+]
+
+module _ (file : FileParts) (some : 1 ≤ length file.methods) where
+  after_calls : (n : ℕ) (tunes : Tunes) → CallsPass file n tunes → Answer file
+  after_calls n tunes h =
+      let makes : Makes file (parts_of n file tunes) = record { n = n; tunes = tunes; passes = h; is = refl } in
+      after_leads file (parts_of n file tunes) makes (record { before = letters_right file n tunes h some; leads = leads_right file n tunes h some })
+
+  after_lengths : (n : ℕ) (tunes : Tunes) → LengthsPass file n tunes → Answer file
+  after_lengths n tunes h = elim (first_wrong (λ j. (i : ℕ) → i < j → AreApart file i j) (λ j. known_each (λ i. AreApart file i j) (λ i. known_apart file i j) j) (length file.calls)) [
+    | inl all ↦ after_calls n tunes (record { before = h; apart = all })
+    | inr second ↦ elim (first_wrong (λ i. AreApart file i second.0) (λ i. known_apart file i second.0) second.0) [
+      | inl all ↦ absurd (second.1.wrong all)
+      | inr first ↦ inr (fault.Clash first.0 second.0, (n, tunes, h, second.1, first.1))
+    ]
+  ]
+
+  after_marks : (n : ℕ) (tunes : Tunes) → MarksPass file n tunes → Answer file
+  after_marks n tunes h = elim (first_wrong (FitsAll file tunes) (known_fits file tunes) (length file.calls)) [
+    | inl all ↦ after_lengths n tunes (record { before = h; fits = all })
+    | inr call ↦ elim (first_wrong (λ m. is_for file call.0 m ≡ true → Fits file tunes call.0 m) (known_fit file tunes call.0) (length file.methods)) [
+      | inl all ↦ absurd (call.1.wrong all)
+      | inr method ↦ inr (fault.CallLength call.0 method.0, (n, tunes, h, call.1, method.1))
+    ]
+  ]
+
+  after_overs : (n : ℕ) (tunes : Tunes) → OversPass file n tunes → Answer file
+  after_overs n tunes h = elim (first_wrong (λ i. MarkIsRight (mark_at file i)) (λ i. known_mark (mark_at file i)) (length file.calls)) [
+    | inl all ↦ after_marks n tunes (record { before = h; marks = all })
+    | inr first ↦ inr (fault.Mark first.0, (n, tunes, h, first.1))
+  ]
+
+  after_notations : (n : ℕ) (tunes : Tunes) → CallsSpell file n tunes → Answer file
+  after_notations n tunes h = elim (first_wrong (OverIsRight file) (known_over file) (length file.calls)) [
+    | inl all ↦ after_overs n tunes (record { before = h; overs = all })
+    | inr first ↦ inr (fault.Over first.0, (n, tunes, h, first.1))
+  ]
+
+  module _ (taken : TakenOrRefused) where
+    after_methods : (n : ℕ) (methods : List (List Places)) → MethodsSpell file n methods → Answer file
+    after_methods n methods h = elim (spelled_or taken n (call_texts file)) [
+      | inl calls ↦ after_notations n (record { methods = methods; calls = calls.0 }) (record { before = h; calls_spell = calls.1 })
+      | inr first ↦ inr (fault.Notation (whose.Call first.0) first.1, (n, methods, h, first.2))
+    ]
+
+    after_letters : (n : ℕ) → LettersPass file n → Answer file
+    after_letters n h = elim (spelled_or taken n (method_texts file)) [
+      | inl methods ↦ after_methods n methods.0 (record { before = h; methods_spell = methods.1 })
+      | inr first ↦ inr (fault.Notation (whose.Method first.0) first.1, (n, h, first.2))
+    ]
+
+    after_stage : (n : ℕ) → StagePasses file n → Answer file
+    after_stage n h = elim (first_wrong (LetterIsRight (letters_of file)) (known_letter (letters_of file)) (length file.methods)) [
+      | inl all ↦ after_letters n (record { before = h; letters = all })
+      | inr first ↦ inr (fault.Letter first.0, (n, h, first.1))
+    ]
+
+    answer : Answer file
+    answer = elim (known_le_int (pos 3) file.stage) [
+      | inl from ↦ elim (known_le_int file.stage (pos 16)) [
+        | inl to ↦ after_stage (nat_abs file.stage) (staged file from to)
+        | inr over ↦ inr (fault.Stage file.stage, (refl, λ right. over right.1))
+      ]
+      | inr under ↦ inr (fault.Stage file.stage, (refl, λ right. under right.0))
+    ]
+
+-- the values' fault is the first
+is_first : (bytes : List ℕ) (file : FileParts) (f : ProblemFault) → IsFile bytes file → IsFileFault file f → FirstProblemFault bytes f
+is_first bytes file fault.NotToml is h = absurd h
+is_first bytes file (fault.Key path) is h = absurd h
+is_first bytes file (fault.Stage stage) is h = (file, is, h)
+is_first bytes file (fault.Letter i) is h = (file, is, h)
+is_first bytes file (fault.Notation whose why) is h = (file, is, h)
+is_first bytes file (fault.Over call) is h = (file, is, h)
+is_first bytes file (fault.Mark call) is h = (file, is, h)
+is_first bytes file (fault.CallLength call method) is h = (file, is, h)
+is_first bytes file (fault.Clash first second) is h = (file, is, h)
+is_first bytes file (fault.Steps steps) is h = (file, is, h)
+is_first bytes file (fault.Range low high) is h = (file, is, h)
+is_first bytes file (fault.Deep depth) is h = (file, is, h)
+is_first bytes file (fault.Parts parts) is h = (file, is, h)
+is_first bytes file (fault.Count at) is h = (file, is, h)
+is_first bytes file (fault.Pattern i) is h = (file, is, h)
+is_first bytes file fault.NoMemory is h = absurd h
+is_first bytes file fault.Com is h = (file, is, h)
+
+abbrev Answered : List ℕ → Type 0
+Answered bytes = ((p : ProblemParts) × ProblemFile bytes p) ⊎ ((f : ProblemFault) × FirstProblemFault bytes f)
+
+module _ (taken : TakenOrRefused) (bytes : List ℕ) where
+  of_file : (file : FileParts) → IsFile bytes file → Answered bytes
+  of_file file is = elim (answer file (some_methods bytes file is) taken) [
+    | inl made ↦ inl (made.0, record { file = file; is_file = is; makes = made.1; sound = made.2 })
+    | inr wrong ↦ inr (wrong.0, is_first bytes file wrong.0 is wrong.1)
+  ]
+
+  of_table : (table : Members) (keys : List (List ℕ)) → Reads bytes table → key_faults table ≡ keys → Answered bytes
+  of_table table [] reads none = of_file (file_of table) (record { table = table; reads = reads; keys = none; is = refl })
+  of_table table (path ∷ rest) reads is = inr (fault.Key path, (table, rest, reads, is))
+
+  of_text : (found : Option Members) → IsUtf8 bytes → parse_document bytes ≡ found → Answered bytes
+  of_text None text is = inr (fault.NotToml, λ table reads. none_or_some (parse_document bytes) table is reads.is)
+  of_text (Some table) text is = of_table table (key_faults table) (record { text = text; is = is }) refl
+
+  of_bytes : (test : Bool) → is_utf8 bytes ≡ test → Answered bytes
+  of_bytes true is = of_text (parse_document bytes) (IsUtf8-from_is_utf8 bytes is) refl
+  of_bytes false is = inr (fault.NotToml, λ table reads. false≢true (sym is ∙ is_utf8-from_IsUtf8 bytes reads.text))
+
+pub taken_or_refused : TakenOrRefused → (bytes : List ℕ) → Answered bytes
+taken_or_refused taken bytes = of_bytes taken bytes (is_utf8 bytes) refl

@@ -1,0 +1,7 @@
+use Rattle.std.proofs.Common.{◌≡◌, map}
+use Rattle.toml.specs.View.{members_view, table_view}
+use Rattle.cr_model.specs.Keys.{unknown_keys}
+use Rattle.cr_read.proofs.keys.check_unknown_of.Given as goal
+
+abbrev pub invariant-loop-key : goal.invariant-loop-key
+invariant-loop-key l = unknown_keys l.path (map (λ known. known.now) l.names) (members_view l.key-iterator) ≡ unknown_keys l.path (map (λ known. known.now) l.names) (table_view l.table)

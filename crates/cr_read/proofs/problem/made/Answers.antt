@@ -1,0 +1,27 @@
+use Rattle.std.proofs.Common.{◌≡◌, refl, subst}
+use Rattle.cr_model.specs.Problems.{ProblemParts, parts_from}
+use Rattle.cr_model.specs.Faults.{IsPartFault}
+use Rattle.cr_model.specs.ProblemFiles.{parts_of}
+use Rattle.cr_read.proofs.LeadsRight.{tuned, letters_right, leads_right, later_fault, refused_from}
+use Rattle.cr_read.proofs.problem.made.Goals as goal
+
+pub leads_of-requires-clause-tuned : goal.leads_of-requires-clause-tuned
+leads_of-requires-clause-tuned c = tuned c.args.file.now c.args.stage c.args.tunes.now c.requires.passes.before.before.before.before
+
+pub fault_of-requires : goal.fault_of-requires
+fault_of-requires c =
+    let is : parts_from c.args.stage c.args.letters.items c.in_ok-leads.leads.items c.in_ok-query.query ≡ parts_of c.args.stage c.args.file.now c.args.tunes.now =
+    rw (c.requires.letters, c.in_ok-leads.ensures, c.in_ok-query.ensures) in
+    later_fault (parts_of c.args.stage c.args.file.now c.args.tunes.now) c.in-Err.why
+    (letters_right c.args.file.now c.args.stage c.args.tunes.now c.requires.passes c.requires.some)
+    (leads_right c.args.file.now c.args.stage c.args.tunes.now c.requires.passes c.requires.some)
+    (subst (λ (p : ProblemParts). IsPartFault p c.in-Err.why) is c.in-Err.ensures.fault)
+
+pub returns-in-Err : goal.returns-in-Err
+returns-in-Err c =
+    let is : parts_from c.args.stage c.args.letters.items c.in_ok-leads.leads.items c.in_ok-query.query ≡ parts_of c.args.stage c.args.file.now c.args.tunes.now =
+    rw (c.requires.letters, c.in_ok-leads.ensures, c.in_ok-query.ensures) in
+    refused_from c.args.file.now c.fault_of.result
+    (c.fault_of.ensures c.args.file.now (parts_of c.args.stage c.args.file.now c.args.tunes.now)
+    (record { n = c.args.stage; tunes = c.args.tunes.now; passes = c.requires.passes; is = refl })
+    (subst (λ (p : ProblemParts). IsPartFault p c.in-Err.why) is c.in-Err.ensures.fault))

@@ -1,0 +1,3 @@
+pub mod FirstKeys
+pub mod Reading
+pub mod Steps

@@ -1,0 +1,260 @@
+//! The checks of the calls: what they replace, their marks, their lengths, and that no two clash.
+
+ghost use Rattle.std.specs.Prelude.{◌≡◌, ◌≢◌, ℕ, ◌<◌, ◌≤◌, ◌↔◌, ◌+◌, ◌-◌, true, length, get_or, IsTrue, IfSome, MatchOption, MatchResult, unwrap_or, option_map, string_bytes};
+ghost use Rattle.cr_model.specs.Faults.{IsFirstWrong};
+ghost use Rattle.cr_model.specs.ProblemFiles.{letters_of, call_at, mark_at, is_named, is_for, tune_at, over_at, called_tune, OverIsRight, MarkIsRight, Fits, FitsAll, AreApart};
+ghost use Rattle.cr_read.specs.Reading.{IsTuned, CallsAreRight, IsCallFault};
+
+use crate::file_parts::{CallText, File};
+use crate::keys::stands_in;
+use crate::letters::byte_of;
+use crate::tunes::{Tune, Tunes};
+use cr_model::ProblemFault;
+use cr_row::Change;
+
+// A call, by its index.
+#[tactic(auto, using(crate::proofs::CallFacts::call_is))]
+fn call_at(file: &File, call: usize) -> &CallText
+    requires { call < length file.now.calls }
+    ensures { result.now ≡ call_at file.now call }
+{
+    &file.calls[call]
+}
+
+/// A call's mark.
+pub fn mark_of(file: &File, call: usize) -> u8
+    requires { call < length file.now.calls }
+    ensures { result ≡ mark_at file.now call }
+{
+    let text = call_at(file, call);
+    byte_of(text.mark.as_str())
+}
+
+// How many changes a call replaces, if it says so.
+fn over_of(file: &File, call: usize) -> Option<i64>
+    requires { call < length file.now.calls }
+    ensures { result ≡ (call_at file.now call).over }
+{
+    let text = call_at(file, call);
+    text.over
+}
+
+// Whether a call that names these methods is for that with the letter.
+fn is_named(methods: &Option<String>, letter: u8) -> bool
+    ensures { result ≡ is_named (option_map string_bytes methods.now) letter }
+{
+    match methods {
+        Some(letters) => stands_in(letters.as_bytes(), letter),
+        None => true,
+    }
+}
+
+/// Whether a call is for a method.
+pub fn is_for(file: &File, letters: &[u8], call: usize, method: usize) -> bool
+    requires is { letters.now ≡ letters_of file.now }
+    requires known { call < length file.now.calls }
+    requires there { method < length letters.now }
+    ensures { result ≡ is_for file.now call method }
+{
+    let text = call_at(file, call);
+    is_named(&text.methods, letters[method])
+}
+
+fn over_is_right(file: &File, call: usize) -> bool
+    requires { call < length file.now.calls }
+    ensures { IsTrue result ↔ OverIsRight file.now call }
+{
+    match over_of(file, call) {
+        Some(over) => 0 <= over && over <= 128,
+        None => true,
+    }
+}
+
+// The first call whose `over` is wrong.
+fn wrong_over(file: &File) -> Option<u64>
+    ensures { MatchOption result ((call : ℕ) → call < length file.now.calls → OverIsRight file.now call) (IsFirstWrong (OverIsRight file.now) (length file.now.calls)) }
+{
+    for call in 0..file.call_count() {
+        if !over_is_right(file, call) {
+            return Some(call as u64);
+        }
+    }
+    None
+}
+
+fn mark_is_right(mark: u8) -> bool
+    ensures { IsTrue result ↔ MarkIsRight mark }
+{
+    b'a' <= mark && mark <= b'z' && mark != b'p'
+}
+
+// The first call whose mark is wrong.
+fn wrong_mark(file: &File) -> Option<u64>
+    ensures { MatchOption result ((call : ℕ) → call < length file.now.calls → MarkIsRight (mark_at file.now call)) (IsFirstWrong (λ i. MarkIsRight (mark_at file.now i)) (length file.now.calls)) }
+{
+    for call in 0..file.call_count() {
+        if !mark_is_right(mark_of(file, call)) {
+            return Some(call as u64);
+        }
+    }
+    None
+}
+
+/// The changes of a tune, by its index.
+#[tactic(auto, using(crate::proofs::CallFacts::tune_is))]
+pub fn changes_of(tunes: &[Tune], index: usize) -> &[Change]
+    requires { index < length tunes.now }
+    ensures { result.now ≡ tune_at tunes.now index }
+{
+    let tune = &tunes[index];
+    tune.changes.as_slice()
+}
+
+/// How many changes a call replaces.
+pub fn replaced(file: &File, tunes: &Tunes, call: usize) -> u64
+    requires known { call < length file.now.calls }
+    requires tuned { IsTuned file.now tunes.now }
+    ensures { result ≡ unwrap_or (over_at file.now call) (length (tune_at tunes.now.calls call)) }
+{
+    match over_of(file, call) {
+        Some(over) => over.unsigned_abs(),
+        None => changes_of(&tunes.calls, call).len() as u64,
+    }
+}
+
+// Whether a call replaces no more changes than a method has, and gives a lead of at most 128.
+#[tactic(auto, using(crate::proofs::CallFacts::called_length))]
+fn fits(file: &File, tunes: &Tunes, call: usize, method: usize) -> bool
+    requires known { call < length file.now.calls }
+    requires there { method < length file.now.methods }
+    requires tuned { IsTuned file.now tunes.now }
+    ensures { IsTrue result ↔ Fits file.now tunes.now call method }
+{
+    let over = replaced(file, tunes, call);
+    let rung = changes_of(&tunes.methods, method).len() as u64;
+    let added = changes_of(&tunes.calls, call).len() as u64;
+    over <= rung && added <= 128 && rung - over <= 128 - added
+}
+
+// Whether a call fits a method, if it is for it.
+fn suits(file: &File, letters: &[u8], tunes: &Tunes, call: usize, method: usize) -> bool
+    requires is { letters.now ≡ letters_of file.now }
+    requires known { call < length file.now.calls }
+    requires there { method < length file.now.methods }
+    requires tuned { IsTuned file.now tunes.now }
+    ensures { IsTrue result ↔ (is_for file.now call method ≡ true → Fits file.now tunes.now call method) }
+{
+    if is_for(file, letters, call, method) {
+        fits(file, tunes, call, method)
+    } else {
+        true
+    }
+}
+
+// The first method that a call is for and does not fit.
+fn wrong_method(file: &File, letters: &[u8], tunes: &Tunes, call: usize) -> Option<u64>
+    requires is { letters.now ≡ letters_of file.now }
+    requires known { call < length file.now.calls }
+    requires tuned { IsTuned file.now tunes.now }
+    ensures { MatchOption result (FitsAll file.now tunes.now call) (IsFirstWrong (λ m. is_for file.now call m ≡ true → Fits file.now tunes.now call m) (length file.now.methods)) }
+{
+    for method in 0..file.method_count() {
+        if !suits(file, letters, tunes, call, method) {
+            return Some(method as u64);
+        }
+    }
+    None
+}
+
+// The first call that does not fit, and the first method that it does not fit.
+fn wrong_length(file: &File, letters: &[u8], tunes: &Tunes) -> Option<(u64, u64)>
+    requires is { letters.now ≡ letters_of file.now }
+    requires tuned { IsTuned file.now tunes.now }
+    ensures { MatchOption result ((call : ℕ) → call < length file.now.calls → FitsAll file.now tunes.now call)
+        (λ p. IsFirstWrong (FitsAll file.now tunes.now) (length file.now.calls) p.0 × IsFirstWrong (λ m. is_for file.now p.0 m ≡ true → Fits file.now tunes.now p.0 m) (length file.now.methods) p.1) }
+{
+    for call in 0..file.call_count() {
+        if let Some(method) = wrong_method(file, letters, tunes, call) {
+            return Some((call as u64, method));
+        }
+    }
+    None
+}
+
+// Whether two calls are for no method in common.
+fn share_no_method(file: &File, letters: &[u8], first: usize, second: usize) -> bool
+    requires is { letters.now ≡ letters_of file.now }
+    requires one { first < length file.now.calls }
+    requires other { second < length file.now.calls }
+    ensures { IsTrue result ↔ ((method : ℕ) → method < length file.now.methods → is_for file.now first method ≡ true → is_for file.now second method ≡ true → ⊥) }
+{
+    for method in 0..file.method_count() {
+        if is_for(file, letters, first, method) && is_for(file, letters, second, method) {
+            return false;
+        }
+    }
+    true
+}
+
+// Whether two calls have no mark and method in common.
+fn are_apart(file: &File, letters: &[u8], first: usize, second: usize) -> bool
+    requires is { letters.now ≡ letters_of file.now }
+    requires one { first < length file.now.calls }
+    requires other { second < length file.now.calls }
+    ensures { IsTrue result ↔ AreApart file.now first second }
+{
+    if mark_of(file, first) == mark_of(file, second) {
+        share_no_method(file, letters, first, second)
+    } else {
+        true
+    }
+}
+
+// The first earlier call that a call clashes with.
+fn clashing(file: &File, letters: &[u8], second: usize) -> Option<u64>
+    requires is { letters.now ≡ letters_of file.now }
+    requires known { second < length file.now.calls }
+    ensures { MatchOption result ((first : ℕ) → first < second → AreApart file.now first second) (IsFirstWrong (λ i. AreApart file.now i second) second) }
+{
+    for first in 0..second {
+        if !are_apart(file, letters, first, second) {
+            return Some(first as u64);
+        }
+    }
+    None
+}
+
+// The first clash: the earlier call, and the later.
+fn clash(file: &File, letters: &[u8]) -> Option<(u64, u64)>
+    requires is { letters.now ≡ letters_of file.now }
+    ensures { MatchOption result ((second : ℕ) → second < length file.now.calls → (first : ℕ) → first < second → AreApart file.now first second)
+        (λ p. IsFirstWrong (λ j. (i : ℕ) → i < j → AreApart file.now i j) (length file.now.calls) p.1 × IsFirstWrong (λ i. AreApart file.now i p.1) p.1 p.0) }
+{
+    for second in 0..file.call_count() {
+        if let Some(first) = clashing(file, letters, second) {
+            return Some((first, second as u64));
+        }
+    }
+    None
+}
+
+/// Checks what the calls replace, then their marks, then their lengths, then that no two clash.
+pub fn check_calls(file: &File, letters: &[u8], tunes: &Tunes) -> Result<(), ProblemFault>
+    requires is { letters.now ≡ letters_of file.now }
+    requires tuned { IsTuned file.now tunes.now }
+    ensures { MatchResult result (λ _. CallsAreRight file.now tunes.now) (IsCallFault file.now tunes.now) }
+{
+    if let Some(call) = wrong_over(file) {
+        return Err(ProblemFault::Over(call));
+    }
+    if let Some(call) = wrong_mark(file) {
+        return Err(ProblemFault::Mark(call));
+    }
+    if let Some((call, method)) = wrong_length(file, letters, tunes) {
+        return Err(ProblemFault::CallLength(call, method));
+    }
+    if let Some((first, second)) = clash(file, letters) {
+        return Err(ProblemFault::Clash(first, second));
+    }
+    Ok(())
+}

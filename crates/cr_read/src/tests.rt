@@ -1,0 +1,466 @@
+use super::*;
+use cr_model::{Problem, ProblemFault};
+use std::alloc::{AllocError, Global};
+use std::test::*;
+
+const STAGE: &str = "stage = 5\n";
+
+const METHOD: &str = "[[method]]\nletter = \"A\"\nnotation = \"5.1.5.1.5,125\"\n";
+
+const GRANDSIRE: &str = "[[method]]\nletter = \"B\"\nnotation = \"3,1.5.1.5.1\"\n";
+
+const CALL: &str = "[[call]]\nmark = \"b\"\nnotation = \"145\"\n";
+
+const QUERY: &str = "[query]\nmin = 1\nmax = 120\n";
+
+const MINIMUS: &str =
+    "stage = 4\n[[method]]\nletter = \"A\"\nnotation = \"x14x14,12\"\n[query]\nmin = 1\nmax = 24\n";
+
+// The pieces of a file, one after another.
+fn joined(alloc: Global, pieces: &[&str]) -> Result<String, AllocError> {
+    let mut text = String::new(alloc);
+    for piece in pieces {
+        text.push_str(*piece)?;
+    }
+    Ok(text)
+}
+
+// The same piece again and again, each with another letter.
+fn lettered(alloc: Global, letters: &str, before: &str, after: &str) -> Result<String, AllocError> {
+    let mut text = String::new(alloc);
+    for letter in letters.chars() {
+        text.push_str(before)?;
+        text.push(letter)?;
+        text.push_str(after)?;
+    }
+    Ok(text)
+}
+
+// The letter, mark and number of changes of each lead, and the limits on the whole.
+fn shown(alloc: Global, problem: &Problem) -> Result<String, AllocError> {
+    let mut text = String::new(alloc);
+    for lead in problem.leads() {
+        match problem.letters().get(usize::from(lead.step.method)) {
+            Some(letter) => text.push(char::from(*letter))?,
+            None => text.push('?')?,
+        }
+        text.push(char::from(lead.step.mark))?;
+        text.push_str(format!(in alloc; "{} ", lead.changes.len())?.as_str())?;
+    }
+    let query = problem.query();
+    text.push_str(format!(in alloc; "{} {} {}", query.min, query.max, query.parts)?.as_str())?;
+    Ok(text)
+}
+
+// What a file is read as: its problem, or its fault.
+fn told(alloc: Global, bytes: &[u8]) -> Result<String, AllocError> {
+    match read_problem(alloc, bytes) {
+        Ok(problem) => shown(alloc, &problem),
+        Err(ProblemFault::Key(path)) => match std::str::from_utf8(path.bytes.as_slice()) {
+            Ok(path) => format!(in alloc; "Key({path})"),
+            Err(_) => format!(in alloc; "Key"),
+        },
+        Err(why) => format!(in alloc; "{why:?}"),
+    }
+}
+
+fn told_of(alloc: Global, pieces: &[&str]) -> Result<String, AllocError> {
+    let text = joined(alloc, pieces)?;
+    told(alloc, text.as_bytes())
+}
+
+// Files of a stage, methods, calls and the rest, and what they are read as.
+const FILES: [([&str; 4], &str); 29] = [
+    ([STAGE, METHOD, CALL, QUERY], "Ap10 Ab10 1 120 1"),
+    (["stage =\n", METHOD, CALL, QUERY], "NotToml"),
+    ([STAGE, METHOD, CALL, ""], "Key(query)"),
+    (
+        ["speed = 1\nstage = 5\n", METHOD, CALL, QUERY],
+        "Key(speed)",
+    ),
+    (["stage = 17\n", METHOD, CALL, QUERY], "Stage(17)"),
+    (
+        [
+            STAGE,
+            "[[method]]\nletter = \"a\"\nnotation = \"5\"\n",
+            CALL,
+            QUERY,
+        ],
+        "Letter(0)",
+    ),
+    (
+        [
+            STAGE,
+            "[[method]]\nletter = \"A\"\nnotation = \"x\"\n",
+            CALL,
+            QUERY,
+        ],
+        "Notation(Method(0), CrossOnOdd(0))",
+    ),
+    (
+        [
+            STAGE,
+            METHOD,
+            "[[call]]\nmark = \"p\"\nnotation = \"145\"\n",
+            QUERY,
+        ],
+        "Mark(0)",
+    ),
+    (
+        [
+            STAGE,
+            "[[method]]\nletter = \"A\"\nnotation = \"5\"\n",
+            "[[call]]\nmark = \"b\"\nnotation = \"5.145\"\n",
+            QUERY,
+        ],
+        "CallLength(0, 0)",
+    ),
+    (
+        [
+            STAGE,
+            METHOD,
+            "[[call]]\nmark = \"b\"\nnotation = \"145\"\n[[call]]\nmark = \"b\"\nnotation = \"145\"\n",
+            QUERY,
+        ],
+        "Clash(0, 1)",
+    ),
+    (
+        [STAGE, METHOD, CALL, "[query]\nmin = 0\nmax = 120\n"],
+        "Range(0, 120)",
+    ),
+    (
+        [
+            "stage = 8\n",
+            "[[method]]\nletter = \"A\"\nnotation = \"x\"\n",
+            "[[call]]\nmark = \"b\"\nnotation = \"18\"\n",
+            "[query]\nmin = 1\nmax = 1025\n",
+        ],
+        "Deep(1025)",
+    ),
+    (
+        [
+            STAGE,
+            METHOD,
+            CALL,
+            "[query]\nmin = 1\nmax = 120\nparts = 0\n",
+        ],
+        "Parts(0)",
+    ),
+    (
+        [
+            STAGE,
+            METHOD,
+            CALL,
+            "[query]\nmin = 1\nmax = 120\n[[count]]\nmark = \"z\"\n",
+        ],
+        "Count(Mark(0))",
+    ),
+    (
+        [
+            STAGE,
+            METHOD,
+            CALL,
+            "[query]\nmin = 1\nmax = 120\n[[rows]]\npattern = \"1425\"\n",
+        ],
+        "Pattern(0)",
+    ),
+    (
+        [
+            STAGE,
+            METHOD,
+            "[[call]]\nmark = \"b\"\nnotation = \"145\"\nover = 129\n",
+            QUERY,
+        ],
+        "Over(0)",
+    ),
+    (
+        [
+            STAGE,
+            METHOD,
+            "[[call]]\nmark = \"b\"\nnotation = \"145\"\nover = 11\n",
+            QUERY,
+        ],
+        "CallLength(0, 0)",
+    ),
+    (
+        [
+            STAGE,
+            METHOD,
+            CALL,
+            "[query]\nmin = 1\nmax = 120\n[com]\nmin = 2\nmax = 1\n",
+        ],
+        "Com",
+    ),
+    (
+        [
+            STAGE,
+            "[[method]]\nletter = \"AB\"\nnotation = \"5\"\n",
+            CALL,
+            QUERY,
+        ],
+        "Letter(0)",
+    ),
+    (
+        [
+            STAGE,
+            METHOD,
+            "[[call]]\nmark = \"b\"\nnotation = \"145\"\nmethods = \"\"\n",
+            QUERY,
+        ],
+        "Key(call[0].methods)",
+    ),
+    (
+        [
+            STAGE,
+            METHOD,
+            "[[call]]\nmark = \"b\"\nnotation = \"145\"\nmethods = \"AA\"\n",
+            QUERY,
+        ],
+        "Key(call[0].methods)",
+    ),
+    (
+        [
+            STAGE,
+            METHOD,
+            "[[call]]\nmark = \"b\"\nnotation = \"145\"\nmethods = \"Z\"\n",
+            QUERY,
+        ],
+        "Key(call[0].methods)",
+    ),
+    (["stage = 5\nmethod = []\n", "", "", QUERY], "Key(method)"),
+    (["stage = 5\nmethod = 3\n", "", "", QUERY], "Key(method)"),
+    (["stage = 5\nmethod = [3]\n", "", "", QUERY], "Key(method)"),
+    (["stage = 5.0\n", METHOD, CALL, QUERY], "Key(stage)"),
+    (
+        ["stage = -9223372036854775808\n", METHOD, CALL, QUERY],
+        "Stage(-9223372036854775808)",
+    ),
+    (
+        ["stage = 9223372036854775807\n", METHOD, CALL, QUERY],
+        "Stage(9223372036854775807)",
+    ),
+    (
+        ["stage = 9223372036854775808\n", METHOD, CALL, QUERY],
+        "NotToml",
+    ),
+];
+
+#[test]
+fn files(rt: HostRuntime) -> Result<(), Fail> {
+    for (pieces, want) in FILES {
+        let found = told_of(rt.alloc(), pieces.as_slice())?;
+        assert_eq!(rt; found.as_str(), want);
+    }
+    Ok(())
+}
+
+// Files that need no table of their own.
+const MORE: [([&str; 4], &str); 22] = [
+    (["query = []\nstage = 5\n", METHOD, CALL, ""], "Key(query)"),
+    (
+        ["zeal = 1\nspeed = 1\nstage = 5\n", METHOD, CALL, QUERY],
+        "Key(speed)",
+    ),
+    (
+        [
+            STAGE,
+            "[[method]]\nletter = \"A\"\nnotation = \"5\"\n[[method]]\nletter = \"B\"\nnotation = \"5\"\nbells = 5\n[[method]]\nletter = \"C\"\n",
+            CALL,
+            QUERY,
+        ],
+        "Key(method[1].bells)",
+    ),
+    (
+        [
+            STAGE,
+            METHOD,
+            "[[call]]\nmark = 1979-05-27\nnotation = \"145\"\n",
+            QUERY,
+        ],
+        "Key(call[0].mark)",
+    ),
+    (
+        [
+            STAGE,
+            METHOD,
+            "[[call]]\nmark = {}\nnotation = \"145\"\n",
+            QUERY,
+        ],
+        "Key(call[0].mark)",
+    ),
+    (
+        [
+            STAGE,
+            METHOD,
+            CALL,
+            "[query]\nmin = 1\nmax = 120\ncalm = 1\nangle = 2\n",
+        ],
+        "Key(query.angle)",
+    ),
+    (
+        [STAGE, METHOD, CALL, "[query]\nmin = true\nmax = 120\n"],
+        "Key(query.min)",
+    ),
+    (
+        ["speed = 1\nstage = 5\n", METHOD, CALL, "[query]\nmin = 1\n"],
+        "Key(query.max)",
+    ),
+    (
+        [
+            "query.min = 1\nquery.max = 120\nstage = 5\n",
+            METHOD,
+            CALL,
+            "",
+        ],
+        "Ap10 Ab10 1 120 1",
+    ),
+    (
+        [
+            "query = { min = 1, max = 120 }\nstage = 5\n",
+            METHOD,
+            CALL,
+            "",
+        ],
+        "Ap10 Ab10 1 120 1",
+    ),
+    (
+        [
+            "method = [{ letter = \"A\", notation = \"5.1.5.1.5,125\" }]\nstage = 5\n",
+            "",
+            CALL,
+            QUERY,
+        ],
+        "Ap10 Ab10 1 120 1",
+    ),
+    (["", "", "", ""], "Key(stage)"),
+    (
+        [
+            "stage = 5\r\n",
+            METHOD,
+            CALL,
+            "[query]\r\nmin = 1\r\nmax = 120\r\n",
+        ],
+        "Ap10 Ab10 1 120 1",
+    ),
+    (["stage = 5\u{0}\n", METHOD, CALL, QUERY], "NotToml"),
+    ([MINIMUS, "", "", ""], "Ap8 1 24 1"),
+    (
+        [
+            STAGE,
+            "[[method]]\nletter = \"A\"\nname = \"Grandsire Doubles\"\nnotation = \"3,1.5.1.5.1\"\n",
+            "",
+            "[query]\nmin = 1\nmax = 30\n",
+        ],
+        "Ap10 1 30 1",
+    ),
+    (
+        [
+            MINIMUS,
+            "[[call]]\nmark = \"e\"\nnotation = \"14\"\nover = 5\n",
+            "",
+            "",
+        ],
+        "Ap8 Ae4 1 24 1",
+    ),
+    (
+        [
+            STAGE,
+            METHOD,
+            GRANDSIRE,
+            "[[call]]\nmark = \"s\"\nnotation = \"3.123\"\nmethods = \"B\"\n[[call]]\nmark = \"b\"\nnotation = \"145\"\nmethods = \"A\"\n[[call]]\nmark = \"b\"\nnotation = \"3.1\"\nmethods = \"B\"\n[query]\nmin = 1\nmax = 120\nparts = 2\n",
+        ],
+        "Ap10 Ab10 Bp10 Bb10 Bs10 1 120 2",
+    ),
+    (
+        [
+            STAGE,
+            METHOD,
+            GRANDSIRE,
+            "[[call]]\nmark = \"z\"\nnotation = \"145\"\n[[call]]\nmark = \"a\"\nnotation = \"145\"\nover = 0\n[query]\nmin = 1\nmax = 120\n",
+        ],
+        "Ap10 Aa11 Az10 Bp10 Ba11 Bz10 1 120 1",
+    ),
+    (
+        [
+            STAGE,
+            METHOD,
+            CALL,
+            "[query]\nmin = 1\nmax = 120\n[[count]]\nmark = \"b\"\n[[leads]]\nletter = \"A\"\nmin = 1\n[[rows]]\npattern = \"*45\"\nmax = 3\n[[rows]]\npattern = \"14?53\"\n[com]\n",
+        ],
+        "Ap10 Ab10 1 120 1",
+    ),
+    (
+        [
+            STAGE,
+            METHOD,
+            CALL,
+            "[query]\nmin = 1\nmax = 120\n[[leads]]\nletter = \"AA\"\n",
+        ],
+        "Count(Method(0))",
+    ),
+    (
+        [
+            STAGE,
+            METHOD,
+            CALL,
+            "[query]\nmin = 1\nmax = 120\n[[rows]]\npattern = \"1*\"\n[[rows]]\npattern = \"1x*\"\n",
+        ],
+        "Pattern(1)",
+    ),
+];
+
+#[test]
+fn more_files(rt: HostRuntime) -> Result<(), Fail> {
+    for (pieces, want) in MORE {
+        let found = told_of(rt.alloc(), pieces.as_slice())?;
+        assert_eq!(rt; found.as_str(), want);
+    }
+    Ok(())
+}
+
+// Eight methods with three calls, nine methods, and twenty-four calls.
+#[test]
+fn many(rt: HostRuntime) -> Result<(), Fail> {
+    let alloc = rt.alloc();
+    let eight = lettered(
+        alloc,
+        "ABCDEFGH",
+        "[[method]]\nnotation = \"5.1.5.1.5,125\"\nletter = \"",
+        "\"\n",
+    )?;
+    let nine = lettered(
+        alloc,
+        "ABCDEFGHI",
+        "[[method]]\nnotation = \"5.1.5.1.5,125\"\nletter = \"",
+        "\"\n",
+    )?;
+    let three = lettered(
+        alloc,
+        "bcd",
+        "[[call]]\nnotation = \"145\"\nmark = \"",
+        "\"\n",
+    )?;
+    let many = lettered(
+        alloc,
+        "abcdefghijklmnoqrstuvwxy",
+        "[[call]]\nnotation = \"145\"\nmark = \"",
+        "\"\n",
+    )?;
+    for (pieces, want) in [
+        ([STAGE, eight.as_str(), three.as_str(), QUERY], "Steps(32)"),
+        ([STAGE, nine.as_str(), CALL, QUERY], "Key(method)"),
+        ([STAGE, METHOD, many.as_str(), QUERY], "Key(call)"),
+    ] {
+        let found = told_of(alloc, pieces.as_slice())?;
+        assert_eq!(rt; found.as_str(), want);
+    }
+    Ok(())
+}
+
+// Bytes that are no text.
+#[test]
+fn no_text(rt: HostRuntime) -> Result<(), Fail> {
+    let found = told(rt.alloc(), b"stage = 5 # \x80\n")?;
+    assert_eq!(rt; found.as_str(), "NotToml");
+    Ok(())
+}

@@ -1,0 +1,10 @@
+use Rattle.cr_top.proofs.Noting.{continued, stopped}
+use Rattle.cr_top.proofs.notes.write_wrong_notation.Goals as goal
+
+pub returns : goal.returns
+returns g c =
+    continued g.met.N.Sink.chains _ _ _ _ _ _ _ c.in_ok-write_text.ensures c.write_whose_notation.ensures
+
+pub returns-in_err-write_text : goal.returns-in_err-write_text
+returns-in_err-write_text g c =
+    stopped _ _ _ _ _ _ c.from_residual.ensures.0 c.in_err-write_text.ensures

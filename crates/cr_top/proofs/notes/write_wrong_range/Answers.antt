@@ -1,0 +1,11 @@
+use Rattle.std.proofs.Common.{to_z-of_z}
+use Rattle.cr_top.proofs.Noting.{continued, stopped}
+use Rattle.cr_top.proofs.notes.write_wrong_range.Goals as goal
+
+pub returns : goal.returns
+returns g c =
+    rw (to_z-of_z c.ranges.low, to_z-of_z c.ranges.high) at (continued g.met.N.Sink.chains _ _ _ _ _ _ _ c.in_ok-write_text.ensures c.write_limits.ensures)
+
+pub returns-in_err-write_text : goal.returns-in_err-write_text
+returns-in_err-write_text g c =
+    stopped _ _ _ _ _ _ c.from_residual.ensures.0 c.in_err-write_text.ensures
