@@ -4,3 +4,4 @@ pub mod PlainBooks
 pub mod Steps
 pub mod Completeness
 pub mod Noting
+pub mod Differing

@@ -1,26 +1,11 @@
 -- Plain leads rung one after another.
-use Rattle.std.proofs.Common.{◌≡◌, ℕ, zero, suc, ◌+◌, ◌*◌, ◌/◌, ◌<◌, ◌≤◌, Bool, true, false, cond, List, [], ◌∷◌, ◌++◌, length, get_or, map, drop, nat_eq, refl, sym, ap, ◌∙◌, arith, append-nil, add-one, drop-cons, length-append}
-use Rattle.std.specs.List.{list_any}
+use Rattle.std.proofs.Common.{◌≡◌, ℕ, zero, suc, ◌+◌, ◌*◌, ◌/◌, ◌<◌, ◌≤◌, List, [], ◌∷◌, ◌++◌, length, get_or, map, drop, refl, sym, ap, ◌∙◌, arith, append-nil, add-one, drop-cons, length-append}
 use Rattle.std.proofs.Math.Nat.{le-div_iff_mul-le}
 use Rattle.std.proofs.lemmas.List.{replicate-append-replicate}
-use Rattle.cr_row.specs.Rows.{Places, changed, after}
+use Rattle.cr_row.specs.Rows.{Places}
 use Rattle.cr_model.specs.Problems.{LeadParts, ProblemParts}
 use Rattle.cr_model.specs.Callings.{changes_of, changes_of_all, lead_length, shortest, least, rows_from, last_of, rows_of, length_of, head_of}
 use Rattle.cr_top.specs.Plain.{plain_leads}
-
--- a change keeps a row's length
-length_changed : (made : List ℕ) (p : ℕ) (row : List ℕ) → length (changed made p row) ≡ length row
-length_changed made p [] = refl
-length_changed made p (x ∷ []) = refl
-length_changed made p (x ∷ y ∷ xs) = by (list_any (nat_eq p) made) (length_changed made (p + 1) (y ∷ xs)) (length_changed made (p + 2) xs)
-  where
-    by : (b : Bool) → length (changed made (p + 1) (y ∷ xs)) ≡ length (y ∷ xs) → length (changed made (p + 2) xs) ≡ length xs
-        → length (cond b (x ∷ changed made (p + 1) (y ∷ xs)) (y ∷ x ∷ changed made (p + 2) xs)) ≡ length (x ∷ y ∷ xs)
-    by true one two = omega (arith, one)
-    by false one two = omega (arith, two)
-
-pub length_after : (change : Places) (row : List ℕ) → length (after change row) ≡ length row
-length_after change row = length_changed change.made 1 row
 
 -- a change that is rung next leaves the later ones
 pub next_change : (changes : List Places) (i : ℕ) (change : Places) → i < length changes → change ≡ get_or changes i change → drop i changes ≡ change ∷ drop (i + 1) changes

@@ -22,6 +22,14 @@ IsCheckpoint input = starts_with nat_eq input (codes "ringsearch checkpoint ") �
 abbrev pub IsUnbuilt : List ℕ → Type 0
 IsUnbuilt input = IsCheckpoint input ⊎ ((p : ProblemParts) × ProblemFile input p × (IsPlain p → ⊥))
 
+-- the search takes the input: it is a problem of one method's plain leads, no longer than is read, and does not begin as a checkpoint
+pub record IsBuilt (input : List ℕ) : Type 0 where
+  pub problem : ProblemParts
+  pub file : ProblemFile input problem
+  pub plain : IsPlain problem
+  pub short : length input ≤ 2 ^ 40
+  pub no_checkpoint : IsCheckpoint input → ⊥
+
 -- the input is a problem, of which this is the text of the book, with nothing found before and the root alone open
 abbrev pub IsBookOf : List ℕ → List ℕ → Type 0
 IsBookOf input text = (p : ProblemParts) × (book : List (List ℕ)) × ProblemFile input p × IsBook p [] ([] ∷ []) book × (text ≡ book_text p book)

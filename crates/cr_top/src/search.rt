@@ -1,6 +1,6 @@
 //! The book of a problem that has one plain lead.
 
-ghost use Rattle.std.specs.Prelude.{◌≡◌, ◌↔◌, ◌<◌, ◌≤◌, ℕ, List, [], ◌∷◌, ◌++◌, length, get_or, All, IsTrue, IfOk, MatchOption, pos, ◌≤ℤ◌};
+ghost use Rattle.std.specs.Prelude.{◌≡◌, ◌↔◌, ◌<◌, ◌≤◌, ℕ, List, [], ◌∷◌, ◌++◌, length, All, IsTrue, IfOk, MatchOption, pos, ◌≤ℤ◌};
 ghost use Rattle.std.specs.Option.{option_to_list};
 ghost use Rattle.cr_row.specs.Rows.{rounds};
 ghost use Rattle.cr_model.specs.Callings.{changes_of, rows_from, last_of, AllDiffer};
@@ -13,6 +13,7 @@ use cr_model::laws::ringing_on;
 use cr_model::{Calling, Problem};
 use cr_row::{Change, NoMemory, Row};
 use std::alloc::Global;
+use std::collections::BTreeSet;
 
 /// Whether the problem has one method with its plain lead alone, and asks for touches in one part,
 /// of which nothing but their length is asked.
@@ -60,7 +61,8 @@ fn plain_touch(alloc: Global, problem: &Problem) -> Result<Option<Calling>, NoMe
     let Some(course) = plain_course(alloc, problem)? else {
         return Ok(None);
     };
-    if is_touch(problem, &course.rows) {
+    let wanted = is_touch(alloc, problem, &course.rows)?;
+    if wanted {
         Ok(Some(calling_of(alloc, course.leads)?))
     } else {
         Ok(None)
@@ -68,10 +70,11 @@ fn plain_touch(alloc: Global, problem: &Problem) -> Result<Option<Calling>, NoMe
 }
 
 // Whether these rows are as many as the query asks for, and all differ.
-fn is_touch(problem: &Problem, rows: &[Row]) -> bool
-    ensures { IsTrue result ↔ ((problem.now.query.min ≤ℤ pos (length rows.now)) × AllDiffer rows.now) }
+fn is_touch(alloc: Global, problem: &Problem, rows: &[Row]) -> Result<bool, NoMemory>
+    ensures { IfOk result (λ touch. IsTrue touch ↔ ((problem.now.query.min ≤ℤ pos (length rows.now)) × AllDiffer rows.now)) }
 {
-    problem.query().min <= rows.len() as i64 && all_differ(rows)
+    let differ = all_differ(alloc, rows)?;
+    Ok(differ && problem.query().min <= rows.len() as i64)
 }
 
 // So many plain leads.
@@ -129,7 +132,6 @@ fn plain_changes(problem: &Problem) -> &[Change]
 }
 
 // Rings the changes from a row: appends the row after each, and gives the last.
-#[tactic(auto, using(crate::proofs::Ringing::length_after))]
 fn ring(rows: &mut Vec<Row>, head: Row, changes: &[Change]) -> Result<Row, NoMemory>
     requires { All (λ change. change.stage ≡ length head) changes.now }
     ensures last { IfOk result (λ last. last ≡ last_of head (rows_from head changes.now)) }
@@ -145,26 +147,15 @@ fn ring(rows: &mut Vec<Row>, head: Row, changes: &[Change]) -> Result<Row, NoMem
 }
 
 // Whether no row stands twice.
-fn all_differ(rows: &[Row]) -> bool
-    ensures { IsTrue result ↔ AllDiffer rows.now }
+fn all_differ(alloc: Global, rows: &[Row]) -> Result<bool, NoMemory>
+    ensures { IfOk result (λ differ. IsTrue differ ↔ AllDiffer rows.now) }
 {
-    for index in 0..rows.len() {
-        if !is_new(rows, index) {
-            return false;
+    let mut seen = BTreeSet::new(alloc);
+    for row in rows {
+        let new = seen.insert(*row)?;
+        if !new {
+            return Ok(false);
         }
     }
-    true
-}
-
-// Whether no earlier row is the one at the index.
-fn is_new(rows: &[Row], index: usize) -> bool
-    requires { index < length rows.now }
-    ensures { IsTrue result ↔ ((i : ℕ) → i < index → get_or rows.now i [] ≡ get_or rows.now index [] → ⊥) }
-{
-    for earlier in 0..index {
-        if rows[earlier] == rows[index] {
-            return false;
-        }
-    }
-    true
+    Ok(true)
 }

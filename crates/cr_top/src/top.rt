@@ -2,14 +2,13 @@
 
 ghost use Rattle.std.specs.Prelude.{◌≡◌, ◌≢◌, ℕ, ◌^◌, ◌≤◌, ◌⊎◌, ◌↔◌, Some, List, [], ◌∷◌, length, map, string_bytes, IfOk};
 ghost use Rattle.cr_io.specs.Causes.{Rose};
-ghost use Rattle.cr_model.specs.Problems.{ProblemParts};
 ghost use Rattle.cr_model.specs.ProblemFiles.{ProblemFile};
 ghost use Rattle.cr_model.specs.Books.{IsBook, book_text};
 ghost use Rattle.cr_top.specs.Words.{IsAccepted};
 ghost use Rattle.cr_top.specs.Plain.{IsPlain};
 ghost use Rattle.cr_top.specs.Lines.{note_line};
 ghost use Rattle.cr_top.specs.Noted.{AppendsFront};
-ghost use Rattle.cr_top.specs.Endings.{IsCheckpoint, IsBookOf, ReadsInput, MakesText, Ends};
+ghost use Rattle.cr_top.specs.Endings.{IsBuilt, IsBookOf, ReadsInput, MakesText, Ends};
 
 use crate::Status;
 use crate::book::book_text;
@@ -37,8 +36,7 @@ pub fn ringsearch<R: AllocGlobal, S: Source, K: Sink, N: Sink>(
 ) -> Status
     ensures words { result ≡ Status.Words ↔ (IsAccepted (map string_bytes words.now) → ⊥) }
     ensures ends { Ends S.took S.left S.faults source.old source.new K.grew K.faults sink.old sink.new result }
-    ensures complete { IsAccepted (map string_bytes words.now) → (input : List ℕ) → S.left source.old ≡ Some input → length input ≤ 2 ^ 40 → (IsCheckpoint input → ⊥)
-        → (p : ProblemParts) → ProblemFile input p → IsPlain p
+    ensures complete { IsAccepted (map string_bytes words.now) → (input : List ℕ) → S.left source.old ≡ Some input → IsBuilt input
         → (Rose (S.faults source.old) (S.faults source.new) → ⊥) → (Rose (K.faults sink.old) (K.faults sink.new) → ⊥)
         → (result ≡ Status.Finished) ⊎ (result ≡ Status.NoMemory) }
     ensures noted { AppendsFront N.grew notes.old notes.new (note_line result) }

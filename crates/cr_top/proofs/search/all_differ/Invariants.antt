@@ -1,5 +1,5 @@
-use Rattle.std.proofs.Common.{◌≡◌, ◌<◌, ℕ, [], get_or}
+use Rattle.cr_top.proofs.Differing.{IsSeen}
 use Rattle.cr_top.proofs.search.all_differ.Given as goal
 
-abbrev pub invariant-loop-index : goal.invariant-loop-index
-invariant-loop-index l = (i j : ℕ) → i < j → j < l.index → get_or l.rows i [] ≡ get_or l.rows j [] → ⊥
+abbrev pub invariant-loop-row : goal.invariant-loop-row
+invariant-loop-row l = IsSeen l.rows l.seen l.row-index

@@ -1,7 +1,7 @@
-use Rattle.std.proofs.Common.{◌≡◌, ◌+◌, ◌++◌, [], ◌∷◌, length, drop, sym, ap, ◌∙◌, arith, append_assoc}
+use Rattle.std.proofs.Common.{◌≡◌, ◌+◌, ◌++◌, [], ◌∷◌, drop, sym, ap, ◌∙◌, arith, append_assoc}
 use Rattle.cr_row.specs.Rows.{after}
 use Rattle.cr_model.specs.Callings.{rows_from, last_of}
-use Rattle.cr_top.proofs.Ringing.{next_change, length_after}
+use Rattle.cr_top.proofs.Ringing.{next_change}
 use Rattle.cr_top.proofs.search.ring.Goals as goal
 
 pub loop-change-preserved : goal.loop-change-preserved
@@ -10,7 +10,7 @@ loop-change-preserved c =
     let row = c.loop-change.row in
     let next : drop c.loop-change.change-index c.args.changes.now ≡ change ∷ drop (c.loop-change.change-index + 1) c.args.changes.now = next_change c.args.changes.now c.loop-change.change-index change (omega arith) c.change-item.is in
     record {
-      long = omega (arith, length_after change row, ap length c.then-row.ensures.is);
+      long = c.then-row.ensures.same_stage ∙ c.loop-change.invariant.long;
       last = rw c.then-row.ensures.is (sym (ap (λ changes. last_of row (rows_from row changes)) next) ∙ c.loop-change.invariant.last);
       rows = rw (c.in_ok-push.ensures.items, c.then-row.ensures.is) (append_assoc c.loop-change.rows.items (after change row ∷ []) (rows_from (after change row) (drop (c.loop-change.change-index + 1) c.args.changes.now)) ∙ sym (ap (λ changes. c.loop-change.rows.items ++ rows_from row changes) next) ∙ c.loop-change.invariant.rows);
     }
