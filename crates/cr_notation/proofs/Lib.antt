@@ -10,3 +10,4 @@ pub mod Refined
 pub mod Written
 pub mod Canonical
 pub mod Spelled
+pub mod Exact

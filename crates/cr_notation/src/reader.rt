@@ -1,11 +1,16 @@
 //! Reading byte by byte.
 
-ghost use Rattle.std.specs.Prelude.{◌≡◌, ◌≢◌, ◌%◌, ◌≤◌, ◌++◌, [], length, get_or, IfOk, OnOk, IfErr};
+ghost use Rattle.std.specs.Prelude.{◌≡◌, ◌≢◌, ◌⊎◌, ◌%◌, ◌≤◌, ◌++◌, List, [], length, get_or, IfOk, OnOk, IfErr, MatchResult};
+ghost use Rattle.cr_row.specs.Rows.{Places};
+ghost use Rattle.cr_model.specs.declared.notation.NotationFault.{NotationFault};
 ghost use Rattle.cr_model.specs.Notation.{Spells, is_blank, is_cross, IsNamed, group, change_of, mirrored, first_implied, last_implied, last_named};
 ghost use Rattle.cr_model.specs.NotationFaults.{FirstFault};
 ghost use Rattle.cr_notation.specs.Reading.{fresh, first_named, more_named, place_step, cross_step, dot_step, comma_step, end_step, byte_step, read_all};
 ghost use Rattle.cr_notation.specs.Refining.{state_of, shut, IsReady, Steps, Gives};
 
+use crate::laws::{
+    a_text_has_one_first_fault, a_text_spells_one_list, no_text_is_taken_and_refused,
+};
 use cr_model::notation::NotationFault;
 use cr_row::{Change, Stage, bell_of};
 use std::alloc::{AllocError, Global};
@@ -323,6 +328,11 @@ fn read_bytes(alloc: Global, stage: Stage, bytes: &[u8]) -> Result<Vec<Change>, 
 pub fn read_notation(alloc: Global, stage: Stage, text: &str) -> Result<Vec<Change>, NotationFault>
     ensures spelled { IfOk result (λ changes. Spells stage text.now changes.items) }
     ensures refused { IfErr result (λ fault. fault ≢ NotationFault.NoMemory → FirstFault stage text.now fault) }
+    ensures accepts { (changes : List Places) → Spells stage text.now changes → MatchResult result (λ read. read.items ≡ changes) (λ fault. fault ≡ NotationFault.NoMemory) }
+    ensures refuses { (why : NotationFault) → FirstFault stage text.now why → MatchResult result (λ _. ⊥) (λ fault. (fault ≡ why) ⊎ (fault ≡ NotationFault.NoMemory)) }
 {
+    a_text_spells_one_list();
+    a_text_has_one_first_fault();
+    no_text_is_taken_and_refused();
     read_bytes(alloc, stage, text.as_bytes())
 }

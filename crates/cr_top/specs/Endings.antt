@@ -30,9 +30,15 @@ pub record IsBuilt (input : List ℕ) : Type 0 where
   pub short : length input ≤ 2 ^ 40
   pub no_checkpoint : IsCheckpoint input → ⊥
 
--- the input is a problem, of which this is the text of the book, with nothing found before and the root alone open
-abbrev pub IsBookOf : List ℕ → List ℕ → Type 0
-IsBookOf input text = (p : ProblemParts) × (book : List (List ℕ)) × ProblemFile input p × IsBook p [] ([] ∷ []) book × (text ≡ book_text p book)
+-- the input is a problem that the search takes, and this is the text of its book, with nothing found before and the root alone open
+pub record IsBookOf (input text : List ℕ) : Type 0 where
+  pub problem : ProblemParts
+  pub file : ProblemFile input problem
+  pub plain : IsPlain problem
+  pub no_checkpoint : IsCheckpoint input → ⊥
+  pub book : List (List ℕ)
+  pub is_book : IsBook problem [] ([] ∷ []) book
+  pub is : text ≡ book_text problem book
 
 -- the input is no checkpoint, and no problem for this reason
 abbrev pub IsRefused : List ℕ → ProblemFault → Type 0

@@ -8,7 +8,7 @@ ghost use Rattle.cr_top.specs.Words.{IsAccepted};
 ghost use Rattle.cr_top.specs.Plain.{IsPlain};
 ghost use Rattle.cr_top.specs.Lines.{note_line};
 ghost use Rattle.cr_top.specs.Noted.{AppendsFront};
-ghost use Rattle.cr_top.specs.Endings.{IsBuilt, IsBookOf, ReadsInput, MakesText, Ends};
+ghost use Rattle.cr_top.specs.Endings.{IsCheckpoint, IsBuilt, IsBookOf, ReadsInput, MakesText, Ends};
 
 use crate::Status;
 use crate::book::book_text;
@@ -109,7 +109,8 @@ fn text_for(alloc: Global, input: &[u8]) -> Result<Vec<u8>, Status>
 
 // The text of the book of the input's problem.
 fn text_of(alloc: Global, input: &[u8], problem: &Problem) -> Result<Vec<u8>, Status>
-    requires { ProblemFile input.now problem.now }
+    requires file { ProblemFile input.now problem.now }
+    requires no_checkpoint { IsCheckpoint input.now → ⊥ }
     ensures { MakesText input.now result }
 {
     if !is_plain(problem) {
