@@ -2,7 +2,7 @@
 #![tactic(auto)]
 
 use cr_io::{StdSink, StdSource};
-use cr_top::{Status, ringsearch};
+use cr_top::{Status, ringsearch, write_note};
 use std::process::ExitCode;
 use std::{env, io};
 
@@ -12,13 +12,16 @@ fn main(rt: HostRuntime) -> ExitCode {
 
 // Searches what stands on standard input. Words that are no UTF-8 are not accepted.
 fn run(rt: &HostRuntime) -> Status {
+    let mut notes = StdSink::new(rt.stderr());
     let words = match words_of(rt) {
         Ok(words) => words,
-        Err(status) => return status,
+        Err(status) => {
+            write_note(&mut notes, &status);
+            return status;
+        }
     };
     let mut source = StdSource::new(rt.stdin());
     let mut sink = StdSink::new(rt.stdout());
-    let mut notes = StdSink::new(rt.stderr());
     ringsearch(rt, &words, &mut source, &mut sink, &mut notes)
 }
 

@@ -116,7 +116,7 @@ const FAULTS: [(u8, &str, NotationFault); 25] = [
     (16, "x e", NotationFault::Symbol(2)),
     (4, "1 5", NotationFault::Above(2)),
     (4, "35", NotationFault::Above(1)),
-    (11, "T1", NotationFault::Above(0)),
+    (11, "TE", NotationFault::Above(0)),
     (6, "4 61 8", NotationFault::Gap(2)),
     (4, "21", NotationFault::Order(1)),
     (4, "2 2", NotationFault::Order(2)),

@@ -12,5 +12,6 @@ mod tests;
 mod top;
 mod words;
 
+pub use notes::write_note;
 pub use status::Status;
 pub use top::ringsearch;
