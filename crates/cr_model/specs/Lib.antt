@@ -6,8 +6,11 @@ pub mod Touches
 pub mod Nodes
 pub mod Books
 pub mod Checks
-pub mod Sound
+pub mod Limits
+pub mod Right
 pub mod Faults
+pub mod Sound
+pub mod GivenParts
 pub mod Examples
 pub mod Notation
 pub mod NotationFaults
