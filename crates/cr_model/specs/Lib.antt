@@ -4,6 +4,7 @@ pub mod Callings
 pub mod Queries
 pub mod Touches
 pub mod Nodes
+pub mod Decided
 pub mod Books
 pub mod Sound
 pub mod Faults
