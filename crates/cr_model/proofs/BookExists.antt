@@ -1,5 +1,5 @@
 -- Each problem, list of found touches and list of nodes has a book.
-use Rattle.std.proofs.Common.{◌≡◌, ℕ, ◌+◌, ◌<◌, ◌≤◌, ◌⊎◌, Bool, true, false, List, [], ◌∷◌, ◌++◌, length, All, Ordering, Equal, nat_cmp, inl, inr, refl, sym, ap, ◌∙◌, arith, length-append}
+use Rattle.std.proofs.Common.{◌≡◌, ℕ, ◌+◌, ◌<◌, ◌≤◌, ◌⊎◌, Bool, true, false, List, [], ◌∷◌, length, Ordering, Equal, nat_cmp, inl, inr, refl, sym, ◌∙◌, arith, length-append}
 use Rattle.std.specs.Cmp.{IsTotalOrder}
 use Rattle.std.specs.Cmp.Lexicographic.{slice_cmp}
 use Rattle.std.specs.Ordering.{ordering_then}
@@ -10,7 +10,7 @@ use Rattle.cr_model.specs.Problems.{ProblemParts}
 use Rattle.cr_model.specs.Callings.{HasSteps, changes_of, changes_of_all, length_of, lead_length}
 use Rattle.cr_model.specs.Queries.{cap}
 use Rattle.cr_model.specs.Decided.{is_kept}
-use Rattle.cr_model.specs.Touches.{Wanted, Kept}
+use Rattle.cr_model.specs.Touches.{Wanted}
 use Rattle.cr_model.specs.Nodes.{nodes_above, times_found, Covers}
 use Rattle.cr_model.specs.Books.{IsBook, book_order}
 use Rattle.cr_model.specs.Sound.{IsSound}

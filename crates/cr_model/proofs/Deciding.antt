@@ -1,5 +1,5 @@
 -- The tests of what a touch is and what a query asks decide it.
-use Rattle.std.proofs.Common.{◌≡◌, ◌≢◌, ℕ, zero, suc, ◌<◌, Bool, true, false, not, ◌&&◌, T, ℤ, pos, ◌≤ℤ◌, nat_abs, List, [], ◌∷◌, length, Option, Some, None, All, Decides, nat_lt, int_le, bytes_eq, refl, arith, le-leb, leb-true}
+use Rattle.std.proofs.Common.{◌≡◌, ◌≢◌, ℕ, zero, suc, ◌<◌, Bool, true, false, not, T, ℤ, pos, ◌≤ℤ◌, nat_abs, List, [], ◌∷◌, length, Option, Some, None, All, Decides, nat_lt, int_le, bytes_eq, refl, arith, le-leb, leb-true}
 use Rattle.std.specs.List.{list_all}
 use Rattle.std.specs.Int.Signed.{le_z_yes}
 use Rattle.std.proofs.lemmas.Bool.{false≢true}

@@ -1,5 +1,5 @@
 -- The test of what is kept decides it.
-use Rattle.std.proofs.Common.{◌≡◌, ℕ, ◌+◌, ◌<◌, Bool, true, false, not, ◌&&◌, List, [], ◌++◌, length, get_or, take, drop, take-append-drop, Decides, All, is_lt, nat_cmp, inl, inr, refl, sym, ap, ◌∙◌, subst, arith}
+use Rattle.std.proofs.Common.{◌≡◌, ℕ, ◌<◌, Bool, true, not, List, ◌++◌, length, get_or, take, drop, take-append-drop, Decides, All, is_lt, nat_cmp, inl, inr, refl, sym, ap, ◌∙◌, subst, arith}
 use Rattle.std.specs.Cmp.Lexicographic.{slice_cmp}
 use Rattle.std.specs.List.{range_with_len}
 use Rattle.std.proofs.lemmas.Bool.{cases_eq, and_from, and_parts}

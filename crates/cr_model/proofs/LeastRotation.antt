@@ -1,5 +1,5 @@
 -- The least wanted rotation of a calling.
-use Rattle.std.proofs.Common.{◌≡◌, ℕ, zero, suc, ◌+◌, ◌<◌, Bool, true, false, ◌&&◌, List, ◌++◌, length, take, drop, Ordering, Less, Equal, Greater, is_lt, nat_cmp, inl, inr, refl, sym, ap, ◌∙◌, subst, arith, take-append-drop, take_at, drop_at, length-append}
+use Rattle.std.proofs.Common.{◌≡◌, ℕ, zero, suc, ◌+◌, ◌<◌, Bool, true, false, List, ◌++◌, length, take, drop, Ordering, Less, Equal, Greater, is_lt, nat_cmp, inl, inr, refl, sym, ap, ◌∙◌, subst, arith, take-append-drop, take_at, drop_at, length-append}
 use Rattle.std.specs.Cmp.Lexicographic.{slice_cmp}
 use Rattle.std.proofs.lemmas.Bool.{cases_eq, and_from, and_parts, false≢true}
 use Rattle.std.proofs.lemmas.Cmp.{nat_list_cmp_total}

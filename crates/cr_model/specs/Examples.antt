@@ -1,5 +1,5 @@
 -- Problems on four bells: Plain Bob Minimus, and two methods of the same changes, one of them with a call.
-use Rattle.std.specs.Prelude.{ℕ, ℤ, List, [], ◌∷◌, map, pos, Some, None}
+use Rattle.std.specs.Prelude.{ℕ, List, [], ◌∷◌, map, pos, Some, None}
 use Rattle.cr_row.specs.Rows.{Places}
 use Rattle.cr_model.specs.declared.query.Count.{Count}
 use Rattle.cr_model.specs.declared.query.MethodCount.{MethodCount}

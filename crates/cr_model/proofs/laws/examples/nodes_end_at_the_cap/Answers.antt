@@ -1,5 +1,5 @@
-use Rattle.std.proofs.Common.{◌≡◌, ℕ, ◌<◌, ◌≤◌, true, List, [], ◌∷◌, map, length, refl, arith}
-use Rattle.cr_model.specs.Callings.{HasSteps, length_of}
+use Rattle.std.proofs.Common.{◌≡◌, ◌<◌, ◌≤◌, [], ◌∷◌, map, refl, arith}
+use Rattle.cr_model.specs.Callings.{length_of}
 use Rattle.cr_model.specs.Queries.{extent, part_cap}
 use Rattle.cr_model.specs.Examples.{pair, asks}
 use Rattle.cr_model.specs.Nodes.{IsValid}

@@ -1,7 +1,6 @@
-use Rattle.std.proofs.Common.{◌≡◌, ℕ, Bool, true, false, not, List, [], ◌∷◌, map, All, refl, sym, ◌∙◌}
+use Rattle.std.proofs.Common.{◌≡◌, true, not, [], ◌∷◌, map, refl}
 use Rattle.std.specs.List.{list_all}
 use Rattle.std.proofs.lemmas.Bool.Decides.{Decides-not}
-use Rattle.cr_model.specs.Problems.{QueryParts}
 use Rattle.cr_model.specs.Queries.{extent, cap, Meets}
 use Rattle.cr_model.specs.Decided.{meets}
 use Rattle.cr_model.specs.Examples.{pair, asks, exact, near_misses}
