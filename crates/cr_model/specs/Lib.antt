@@ -5,7 +5,9 @@ pub mod Queries
 pub mod Touches
 pub mod Nodes
 pub mod Decided
+pub mod Turning
 pub mod Books
+pub mod Checks
 pub mod Sound
 pub mod Faults
 pub mod Examples

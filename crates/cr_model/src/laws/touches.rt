@@ -5,6 +5,11 @@ ghost use Rattle.cr_model.specs.Problems.{ProblemParts};
 ghost use Rattle.cr_model.specs.Callings.{length_of, TrueTouch};
 ghost use Rattle.cr_model.specs.Touches.{Wanted, IsRotation, Kept};
 
+use cr_row::{
+    change_after_product, change_of_a_row, inverse_on_one_side, product_associates,
+    rounds_is_neutral,
+};
+
 /// A calling is a rotation of itself, of its rotations, and of their rotations.
 pub fn rotations_are_an_equivalence()
     ensures itself { (calling : List ℕ) → IsRotation calling calling }
@@ -29,4 +34,10 @@ pub fn each_wanted_class_has_a_kept_one()
 pub fn a_rotation_of_a_true_touch_is_one()
     ensures { (p : ProblemParts) (calling other : List ℕ) → TrueTouch p calling → IsRotation calling other
         → TrueTouch p other × (length_of p other ≡ length_of p calling) }
-{}
+{
+    change_after_product();
+    change_of_a_row();
+    inverse_on_one_side();
+    product_associates();
+    rounds_is_neutral();
+}
