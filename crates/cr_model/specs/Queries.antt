@@ -72,7 +72,7 @@ pub record Meets (p : ProblemParts) (calling : List ℕ) : Type 0 where
   pub parts : (word : List ℕ) × (calling ≡ repeated (nat_abs p.query.parts) word)
   pub counts : All (λ count. IsWithin count.min count.max (leads_marked p count.mark calling)) p.query.counts
   pub method_counts :
-    All (λ count. IsWithin count.min count.max (leads_lettered p count.letter calling)) p.query.method_counts
+      All (λ count. IsWithin count.min count.max (leads_lettered p count.letter calling)) p.query.method_counts
   pub patterns :
-    All (λ pattern. IsWithin pattern.min pattern.max (rows_fitting pattern.cells (rows_of p calling))) p.query.patterns
+      All (λ pattern. IsWithin pattern.min pattern.max (rows_fitting pattern.cells (rows_of p calling))) p.query.patterns
   pub «com» : MeetsCom p.query.com (changes_of_method p calling)
