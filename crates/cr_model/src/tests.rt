@@ -6,7 +6,7 @@ use std::test::Fail;
 #[derive(Clone, Copy)]
 struct LeadRow(u8, u8, usize);
 
-// The parts of a problem in short: the leads' changes are crosses, or makes of place 1 and the last where the stage is odd.
+// The parts of a problem in short: the leads' changes are crosses, or make place 1 where the stage is odd.
 #[derive(Clone, Copy)]
 struct Draft {
     stage: u8,

@@ -10,9 +10,9 @@ bells_of zero bits = []
 bells_of (suc n) bits = (bits % 16 + 1) ∷ bells_of n (bits / 16)
 
 -- the number that bells are packed in
-abbrev pub bits_of : List ℕ → ℕ
-bits_of [] = 0
-bits_of (b ∷ bs) = (b - 1) + 16 * bits_of bs
+abbrev pub key_of : List ℕ → ℕ
+key_of [] = 0
+key_of (b ∷ bs) = (b - 1) + 16 * key_of bs
 
 -- what the two fields of a row keep
 pub record IsPacked (stage bits : ℕ) : Type 0 where
@@ -25,10 +25,10 @@ pub bells_length : (n bits : ℕ) → length (bells_of n bits) ≡ n
 bells_length zero bits = refl
 bells_length (suc n) bits = ap suc (bells_length n (bits / 16))
 
-pub packed_back : (n bits : ℕ) → bits < 16 ^ n → bits_of (bells_of n bits) ≡ bits
+pub packed_back : (n bits : ℕ) → bits < 16 ^ n → key_of (bells_of n bits) ≡ bits
 packed_back zero bits h = omega arith
 packed_back (suc n) bits h =
-    let rest : bits_of (bells_of n (bits / 16)) ≡ bits / 16 = packed_back n (bits / 16) (omega arith) in
+    let rest : key_of (bells_of n (bits / 16)) ≡ bits / 16 = packed_back n (bits / 16) (omega arith) in
     omega arith
 
 -- the bell at a place is read from its four bits
@@ -36,7 +36,8 @@ pub bell_read : (n bits i d : ℕ) → i < n → get_or (bells_of n bits) i d �
 bell_read zero bits i d h = absurd (omega arith)
 bell_read (suc n) bits zero d h = omega arith
 bell_read (suc n) bits (suc i) d h =
-    let rest : get_or (bells_of n (bits / 16)) i d ≡ bits / 16 / 2 ^ (4 * i) % 16 + 1 = bell_read n (bits / 16) i d (omega arith) in
+    let rest : get_or (bells_of n (bits / 16)) i d ≡ bits / 16 / 2 ^ (4 * i) % 16 + 1 =
+    bell_read n (bits / 16) i d (omega arith) in
     let further : bits / 2 ^ 4 / 2 ^ (4 * i) ≡ bits / 2 ^ (4 + 4 * i) = shr-shr bits 4 (4 * i) in
     let place : 4 + 4 * i ≡ 4 * suc i = omega arith in
     rest ∙ ap (λ q. q % 16 + 1) (further ∙ ap (λ k. bits / 2 ^ k) place)
@@ -53,4 +54,4 @@ AreBells bells = (i : ℕ) → i < length bells → (0 < get_or bells i 0) × (g
 -- rows that are one are packed in one way
 pub same_bits : (n m a b : ℕ) → a < 16 ^ n → b < 16 ^ m → bells_of n a ≡ bells_of m b → (a ≡ b) × (n ≡ m)
 same_bits n m a b h g e =
-    (sym (packed_back n a h) ∙ ap bits_of e ∙ packed_back m b g, sym (bells_length n a) ∙ ap length e ∙ bells_length m b)
+    (sym (packed_back n a h) ∙ ap key_of e ∙ packed_back m b g, sym (bells_length n a) ∙ ap length e ∙ bells_length m b)

@@ -3,15 +3,18 @@
 ghost use Rattle.std.specs.Prelude.{IsTrue, ◌≡◌, ℕ, ◌+◌, ◌-◌, ◌*◌, ◌/◌, ◌%◌, ◌<◌, ◌≤◌, ◌↔◌, ◌^◌, List, length, get_or, IsSome, IfSome};
 ghost use Rattle.std.specs.List.{Contains};
 ghost use Rattle.cr_row.specs.Rows.{IsRow, rounds, product, IsInverse, Places, after};
-ghost use Rattle.cr_row.specs.Packed.{bells_of, AreBells, Undone};
+ghost use Rattle.cr_row.specs.Packed.{bells_of, key_of, AreBells, Undone};
 
 use crate::changes::Change;
 use crate::stages::Stage;
+use crate::symbols::symbol;
 use std::cmp::Ordering;
+use std::fmt;
+use std::fmt::Write;
 use std::marker::Model;
 
 /// A row on 3 to 16 bells. Contracts see the list of its bells, from the first place on.
-#[derive(Debug, Clone, Copy)]
+#[derive(Clone, Copy)]
 #[tactic(auto, using(crate::specs::Packed::packed_back, crate::specs::Packed::bells_length))]
 pub struct Row {
     // One less than each bell, the first place lowest.
@@ -21,7 +24,7 @@ pub struct Row {
 
 impl Model for Row {
     ghost use Rattle.std.specs.Prelude.{◌≡◌, ℕ, ◌<◌, ◌≤◌, ◌^◌, List, length};
-    ghost use Rattle.cr_row.specs.Packed.{bells_of, bits_of, IsPacked, packed_back, bells_length};
+    ghost use Rattle.cr_row.specs.Packed.{bells_of, key_of, IsPacked, packed_back, bells_length};
 
     ghost Value = { List ℕ };
 
@@ -29,7 +32,7 @@ impl Model for Row {
 
     ghost invariant = { λ r. IsPacked r.stage r.bits };
 
-    ghost inverse = { λ bells. record { bits = bits_of bells; stage = length bells } };
+    ghost inverse = { λ bells. record { bits = key_of bells; stage = length bells } };
 
     ghost inverse_ok = { λ a h i. record { bits = packed_back a.stage a.bits h.fits i; stage = bells_length a.stage a.bits i } };
 }
@@ -119,6 +122,15 @@ impl Row {
         }
     }
 
+    /// The row in one number: four bits a bell, the first place lowest, each one less than its bell.
+    /// Rows of one stage are one where their keys are; rows of two stages can have one key.
+    pub fn key(&self) -> u64
+        ensures is { result ≡ key_of self.now }
+        ensures fits { result < 16 ^ length self.now }
+    {
+        self.bits
+    }
+
     // The row of these bells.
     fn made(bells: &[u8]) -> Row
         requires row { IsRow bells.now }
@@ -130,6 +142,16 @@ impl Row {
             bits: packed(bells),
             stage: bells.len() as u8,
         }
+    }
+}
+
+/// The symbols of its bells, as `2143`.
+impl fmt::Debug for Row {
+    fn fmt<W: fmt::Write>(&self, f: &mut fmt::Formatter<W>) -> fmt::Result {
+        for place in 1..self.stage().number() + 1 {
+            write!(f, "{}", char::from(symbol(self.bell_at(place))))?;
+        }
+        Ok(())
     }
 }
 
