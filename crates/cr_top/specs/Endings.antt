@@ -1,5 +1,5 @@
 -- What each ending of the program says of the input, the source and the sink.
-use Rattle.std.specs.Prelude.{◌≡◌, ℕ, ◌^◌, ◌≤◌, ◌⊎◌, ⊤, true, List, [], ◌∷◌, length, nat_eq, codes, Option, Some, None, Result, Ok, Err, Vec}
+use Rattle.std.specs.Prelude.{◌≡◌, ℕ, ◌^◌, ◌<◌, ◌≤◌, ◌⊎◌, ⊤, true, List, [], ◌∷◌, length, nat_eq, codes, Option, Some, None, Result, Ok, Err, Vec}
 use Rattle.std.specs.List.{starts_with}
 use Rattle.std.specs.Io.KnownBytes.{IsAtEnd}
 use Rattle.std.specs.declared.alloc.Global.{Global}
@@ -43,6 +43,17 @@ pub record IsBookOf (input text : List ℕ) : Type 0 where
 -- the input is no checkpoint, and no problem for this reason
 abbrev pub IsRefused : List ℕ → ProblemFault → Type 0
 IsRefused input fault = (IsCheckpoint input → ⊥) × FirstProblemFault input fault
+
+-- the refusal that an input is due: it is no problem, or none that the search takes, or longer than is read
+abbrev pub IsDue : List ℕ → Status → Type 0
+IsDue input (ended.Problem fault) = (length input ≤ 2 ^ 40) × IsRefused input fault
+IsDue input ended.Unbuilt = (length input ≤ 2 ^ 40) × IsUnbuilt input
+IsDue input ended.TooLong = 2 ^ 40 < length input
+IsDue input ended.Finished = ⊥
+IsDue input ended.Words = ⊥
+IsDue input ended.ReadFault = ⊥
+IsDue input ended.WriteFault = ⊥
+IsDue input ended.NoMemory = ⊥
 
 -- what a source told was the input
 abbrev pub WasTold : Option (List ℕ) → List ℕ → Type 0
