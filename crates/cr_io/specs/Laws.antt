@@ -47,17 +47,20 @@ Took-shows None b x p = tt
 Took-shows (Some a) None x p = tt
 Took-shows (Some a) (Some b) x p = p
 
-Counted-chains : (a b c : ℕ) (x y : List ℕ) → Counted a b (length x) → Counted b c (length y) → Counted a c (length (x ++ y))
+Counted-chains : (a b c : ℕ) (x y : List ℕ) → Counted a b (length x) → Counted b c (length y)
+    → Counted a c (length (x ++ y))
 Counted-chains a b c x y p q = omega (arith, length-append x y)
 
 pub Gave-starts : (a : Option (List ℕ)) (n : ℕ) → Gave a a n n []
 Gave-starts a n = (Consumes-starts a, omega arith)
 
-pub Gave-chains : (a b c : Option (List ℕ)) (i j k : ℕ) (x y : List ℕ) → Gave a b i j x → Gave b c j k y → Gave a c i k (x ++ y)
+pub Gave-chains : (a b c : Option (List ℕ)) (i j k : ℕ) (x y : List ℕ) → Gave a b i j x → Gave b c j k y
+    → Gave a c i k (x ++ y)
 Gave-chains a b c i j k x y p q = (Consumes-chains a b c x y p.0 q.0, Counted-chains i j k x y p.1 q.1)
 
 pub Took-starts : (a : Option (List ℕ)) (n : ℕ) → Took a a n n []
 Took-starts a n = (Appends-starts a, omega arith)
 
-pub Took-chains : (a b c : Option (List ℕ)) (i j k : ℕ) (x y : List ℕ) → Took a b i j x → Took b c j k y → Took a c i k (x ++ y)
+pub Took-chains : (a b c : Option (List ℕ)) (i j k : ℕ) (x y : List ℕ) → Took a b i j x → Took b c j k y
+    → Took a c i k (x ++ y)
 Took-chains a b c i j k x y p q = (Appends-chains a b c x y p.0 q.0, Counted-chains i j k x y p.1 q.1)

@@ -1,10 +1,12 @@
 -- What an adapter over a reader or a writer counts, and what it answers.
-use Rattle.std.specs.Prelude.{◌≡◌, ℕ, ◌+◌, ◌-◌, ◌^◌, ◌<◌, ◌≤◌, min, List, length, Option, Result, Ok, IsErr, MatchResult}
+use Rattle.std.specs.Prelude.{◌≡◌, ℕ, ◌+◌, ◌-◌, ◌^◌, ◌<◌, ◌≤◌, min, List, length, Option}
+use Rattle.std.specs.Prelude.{Result, Ok, IsErr, MatchResult}
 use Rattle.std.specs.Io.KnownBytes.{Appends, Consumes}
 
 -- a count is given on where it is at least the least; a lesser one, and an error, is a failed call
 abbrev pub Answers : {E F : Type 0} → ℕ → Result ℕ E → Result ℕ F → Type 0
-Answers least answer result = MatchResult answer (λ n. (least ≤ n → result ≡ Ok n) × (n < least → IsErr result)) (λ _. IsErr result)
+Answers least answer result =
+    MatchResult answer (λ n. (least ≤ n → result ≡ Ok n) × (n < least → IsErr result)) (λ _. IsErr result)
 
 -- so many bytes more were counted, up to a `u64`'s last value
 abbrev pub Counted : ℕ → ℕ → ℕ → Type 0

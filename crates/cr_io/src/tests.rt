@@ -16,6 +16,15 @@ fn ascending(alloc: Global, count: u64) -> Result<Vec<u8>, AllocError> {
     Ok(bytes)
 }
 
+// Nothing where the case holds, and else its name.
+fn holds(name: &'static str, is_right: bool) -> Result<(), Fail> {
+    if is_right {
+        Ok(())
+    } else {
+        Err(Fail::from(name))
+    }
+}
+
 // Which case it is, how many bytes there are, how many a call gives at most, which call fails, the
 // limit, and what ends the reading where it does not come to the end. A call asks for 4,096 bytes,
 // and the last one finds the end.
@@ -92,9 +101,8 @@ fn reads_to_the_end_or_the_limit(rt: HostRuntime) -> Result<(), Fail> {
         let bytes = ascending(alloc, count)?;
         let mut source = MemSource::new(bytes.clone()?, Vec::from_slice(alloc, &[fail])?, most);
         match read_all(alloc, &mut source, limit) {
-            Ok(read) => assert!(rt; end.is_none() && read == bytes, "{name}"),
-            Err(ReadEnd::NoMemory) => return Err(Fail::from("no memory")),
-            Err(other) => assert!(rt; end == Some(other), "{name}"),
+            Ok(read) => holds(name, end.is_none() && read == bytes)?,
+            Err(other) => holds(name, end == Some(other))?,
         }
     }
     Ok(())
@@ -104,18 +112,17 @@ fn reads_to_the_end_or_the_limit(rt: HostRuntime) -> Result<(), Fail> {
 fn gives_what_it_can(rt: HostRuntime) -> Result<(), Fail> {
     let alloc = rt.alloc();
     let mut source = MemSource::new(ascending(alloc, 5)?, Vec::from_slice(alloc, &[2])?, 3);
-    let mut buf = [9; 4];
-    assert!(rt; source.read(&mut []) == Ok(0));
-    assert!(rt; source.read(&mut buf) == Err(Failed));
-    assert!(rt; source.fault_count() == 1);
-    assert!(rt; source.read(&mut buf) == Ok(3));
-    assert!(rt; buf == [0, 1, 2, 9]);
     let mut sure = SureSource::new(ascending(alloc, 2)?);
-    assert!(rt; sure.read(&mut buf) == Ok(2));
-    assert!(rt; buf == [0, 1, 2, 9]);
-    assert!(rt; sure.read(&mut buf) == Ok(0));
-    assert!(rt; sure.fault_count() == 0);
-    Ok(())
+    let mut buf = [9; 4];
+    let empty = source.read(&mut []);
+    let failed = source.read(&mut buf);
+    holds("the second call fails", empty == Ok(0) && failed == Err(Failed) && source.fault_count() == 1)?;
+    let three = source.read(&mut buf);
+    holds("three at most", three == Ok(3) && buf == [0, 1, 2, 9])?;
+    let two = sure.read(&mut buf);
+    let none = sure.read(&mut buf);
+    holds("all that is left", two == Ok(2) && buf == [0, 1, 2, 9])?;
+    holds("the end is no fault", none == Ok(0) && sure.fault_count() == 0)
 }
 
 // Which case it is, how many bytes the text has, how many a call takes at most, which call fails, and
@@ -137,34 +144,37 @@ fn writes_until_a_fault(rt: HostRuntime) -> Result<(), Fail> {
         let text = ascending(alloc, count)?;
         let mut sink = MemSink::new(alloc, Vec::from_slice(alloc, &[fail])?, most);
         let is_whole = write_whole(&mut sink, &text).is_ok();
-        assert!(rt; is_whole == (written == count), "{name}");
         let bytes = sink.bytes().ok_or("a write found no memory")?;
-        let front = ascending(alloc, written)?;
-        assert!(rt; bytes == front.as_slice(), "{name}");
+        holds(name, is_whole == (written == count) && bytes == &text[..bytes.len().min(text.len())])?;
+        holds(name, bytes.len() as u64 == written)?;
     }
     Ok(())
 }
 
-// Lengths of pieces that are written at one call each.
-const PIECES: [usize; 5] = [0, 1, 4_096, 4_097, 100_000];
+// Which case it is, and the length of a piece that is written at one call.
+const PIECES: [(&str, usize); 5] = [
+    ("an empty piece", 0),
+    ("one byte", 1),
+    ("4,096 bytes", 4_096),
+    ("4,097 bytes", 4_097),
+    ("100,000 bytes", 100_000),
+];
 
 #[test]
 fn no_piece_is_lost(rt: HostRuntime) -> Result<(), Fail> {
     let alloc = rt.alloc();
     let text = ascending(alloc, 100_000)?;
-    for length in PIECES {
+    for (name, length) in PIECES {
         let piece = &text[..length.min(text.len())];
         let mut sure = SureSink::new(alloc);
-        assert!(rt; sure.write(piece) == Ok(length), "{length}");
-        assert!(rt; sure.bytes() == Some(piece), "{length}");
+        let taken = sure.write(piece);
+        holds(name, taken == Ok(length) && sure.bytes() == Some(piece))?;
+        // The first call fails, and the second takes it whole.
         let mut sink = MemSink::new(alloc, Vec::from_slice(alloc, &[1])?, 200_000);
-        assert!(rt; sink.write(piece) == Err(Failed), "{length} fails");
-        assert!(rt;
-            sink.bytes() == Some([].as_slice()),
-            "nothing after a fault"
-        );
-        assert!(rt; sink.write(piece) == Ok(length), "{length} after a fault");
-        assert!(rt; sink.bytes() == Some(piece), "{length} after a fault");
+        let failed = sink.write(piece);
+        holds(name, failed == Err(Failed) && sink.bytes() == Some([].as_slice()))?;
+        let taken = sink.write(piece);
+        holds(name, taken == Ok(length) && sink.bytes() == Some(piece))?;
     }
     Ok(())
 }
@@ -206,30 +216,37 @@ impl Write for ErrsOnce {
 }
 
 #[test]
-fn an_error_is_one_fault(rt: HostRuntime) -> Result<(), Fail> {
+fn a_reader_that_errs_once(_: HostRuntime) -> Result<(), Fail> {
     let mut buf = [9; 5_000];
     let mut source = StdSource::new(ErrsOnce { has_erred: false });
-    assert!(rt; source.read(&mut buf) == Err(Failed));
-    assert!(rt; source.fault_count() == 1 && source.given() == 0 && buf[0] == 9);
-    assert!(rt; source.read(&mut buf) == Ok(5_000));
-    assert!(rt; source.fault_count() == 1 && source.given() == 5_000 && buf[4_999] == 7);
-    let mut sink = StdSink::new(ErrsOnce { has_erred: false });
-    assert!(rt; sink.write(&buf) == Err(Failed));
-    assert!(rt; sink.fault_count() == 1 && sink.taken() == 0);
-    assert!(rt; sink.write(&buf) == Ok(5_000));
-    assert!(rt; sink.fault_count() == 1 && sink.taken() == 5_000);
-    Ok(())
+    let failed = source.read(&mut buf);
+    holds("its error is one fault", failed == Err(Failed) && source.fault_count() == 1)?;
+    holds("nothing was given", source.given() == 0)?;
+    let long = source.read(&mut buf);
+    holds("it gives 5,000 bytes", long == Ok(5_000) && source.given() == 5_000)?;
+    holds("they are no fault", source.fault_count() == 1 && buf[0] == 7 && buf[4_999] == 7)
 }
 
 #[test]
-fn a_full_writer_is_a_fault(rt: HostRuntime) -> Result<(), Fail> {
-    // It has room for two bytes, and takes no more.
+fn a_writer_that_errs_once(_: HostRuntime) -> Result<(), Fail> {
+    let piece = [7; 5_000];
+    let mut sink = StdSink::new(ErrsOnce { has_erred: false });
+    let failed = sink.write(&piece);
+    holds("its error is one fault", failed == Err(Failed) && sink.fault_count() == 1)?;
+    holds("nothing was taken", sink.taken() == 0)?;
+    let long = sink.write(&piece);
+    holds("it takes 5,000 bytes", long == Ok(5_000) && sink.taken() == 5_000)?;
+    holds("they are no fault", sink.fault_count() == 1)
+}
+
+#[test]
+fn a_writer_that_is_full(_: HostRuntime) -> Result<(), Fail> {
     let mut room = [0; 2];
     let mut sink = StdSink::new(room.as_mut_slice());
-    assert!(rt; write_whole(&mut sink, &[7, 8, 9]) == Err(WriteFault));
-    assert!(rt; sink.fault_count() == 1 && sink.taken() == 2);
-    assert!(rt; sink.write(&[]) == Ok(0));
-    assert!(rt; sink.fault_count() == 1);
-    assert!(rt; room == [7, 8]);
-    Ok(())
+    let end = write_whole(&mut sink, &[7, 8, 9]);
+    holds("it takes two bytes", end == Err(WriteFault) && sink.taken() == 2)?;
+    holds("that it takes no more is one fault", sink.fault_count() == 1)?;
+    let none = sink.write(&[]);
+    holds("an empty piece is no fault", none == Ok(0) && sink.fault_count() == 1)?;
+    holds("the two bytes are there", room == [7, 8])
 }

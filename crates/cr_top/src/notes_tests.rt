@@ -9,6 +9,15 @@ use cr_model::file_fault::ProblemFault::*;
 use cr_model::file_fault::{KeyPath, Whose};
 use std::test::Fail;
 
+// Nothing where this line was written, and else the line.
+fn holds(line: &'static str, note: Option<&[u8]>) -> Result<(), Fail> {
+    if note == Some(line.as_bytes()) {
+        Ok(())
+    } else {
+        Err(Fail::from(line))
+    }
+}
+
 const STATUSES: [(Status, u8, &str); 8] = [
     (Status::Finished, 0, ""),
     (Status::Words, 2, "ringsearch: words 1 Line\n"),
@@ -23,89 +32,88 @@ const STATUSES: [(Status, u8, &str); 8] = [
 #[test]
 fn each_status_has_its_number_and_its_line(rt: HostRuntime) -> Result<(), Fail> {
     for (status, code, line) in &STATUSES {
-        assert!(rt; status.code() == *code, "the number of {line}");
+        if status.code() != *code {
+            return Err(Fail::from(*line));
+        }
         let mut notes = SureSink::new(rt.alloc());
         write_note(&mut notes, status);
-        let note = notes.bytes().ok_or("a write found no memory")?;
-        assert_eq!(rt; note, line.as_bytes());
+        holds(line, notes.bytes())?;
     }
     Ok(())
 }
 
 const FAULTS: [(Status, &str); 30] = [
-    (Problem(Stage(17)), "3 Stage 17"),
-    (Problem(Stage(-10)), "3 Stage -10"),
-    (Problem(Letter(1)), "4 Letter 1"),
+    (Problem(Stage(17)), "ringsearch: problem 3 Stage 17\n"),
+    (Problem(Stage(-10)), "ringsearch: problem 3 Stage -10\n"),
+    (Problem(Letter(1)), "ringsearch: problem 4 Letter 1\n"),
     (
         Problem(Notation(Whose::Method(0), NotationFault::CrossOnOdd(0))),
-        "5 Notation method 0 CrossOnOdd 0",
+        "ringsearch: problem 5 Notation method 0 CrossOnOdd 0\n",
     ),
     (
         Problem(Notation(Whose::Method(7), NotationFault::Symbol(10))),
-        "5 Notation method 7 Symbol 10",
+        "ringsearch: problem 5 Notation method 7 Symbol 10\n",
     ),
     (
         Problem(Notation(Whose::Call(12), NotationFault::Above(2))),
-        "5 Notation call 12 Above 2",
+        "ringsearch: problem 5 Notation call 12 Above 2\n",
     ),
     (
         Problem(Notation(Whose::Call(0), NotationFault::Order(3))),
-        "5 Notation call 0 Order 3",
+        "ringsearch: problem 5 Notation call 0 Order 3\n",
     ),
     (
         Problem(Notation(Whose::Call(1), NotationFault::Gap(1))),
-        "5 Notation call 1 Gap 1",
+        "ringsearch: problem 5 Notation call 1 Gap 1\n",
     ),
     (
         Problem(Notation(Whose::Method(1), NotationFault::Dot(9))),
-        "5 Notation method 1 Dot 9",
+        "ringsearch: problem 5 Notation method 1 Dot 9\n",
     ),
     (
         Problem(Notation(Whose::Method(2), NotationFault::EmptyBlock(0))),
-        "5 Notation method 2 EmptyBlock 0",
+        "ringsearch: problem 5 Notation method 2 EmptyBlock 0\n",
     ),
     (
         Problem(Notation(Whose::Method(3), NotationFault::SecondComma(14))),
-        "5 Notation method 3 SecondComma 14",
+        "ringsearch: problem 5 Notation method 3 SecondComma 14\n",
     ),
     (
         Problem(Notation(Whose::Call(2), NotationFault::Long(260))),
-        "5 Notation call 2 Long 260",
+        "ringsearch: problem 5 Notation call 2 Long 260\n",
     ),
     (
         Problem(Notation(Whose::Call(3), NotationFault::NoMemory)),
-        "5 Notation call 3 NoMemory",
+        "ringsearch: problem 5 Notation call 3 NoMemory\n",
     ),
-    (Problem(Over(3)), "6 Over 3"),
-    (Problem(Mark(22)), "7 Mark 22"),
-    (Problem(CallLength(0, 1)), "8 CallLength 0 1"),
-    (Problem(Clash(2, 13)), "9 Clash 2 13"),
-    (Problem(Steps(0)), "10 Steps 0"),
-    (Problem(Steps(9)), "10 Steps 9"),
-    (Problem(Steps(10)), "10 Steps 10"),
-    (Problem(Steps(u64::MAX)), "10 Steps 18446744073709551615"),
-    (Problem(Range(-1, 120)), "11 Range -1 120"),
+    (Problem(Over(3)), "ringsearch: problem 6 Over 3\n"),
+    (Problem(Mark(22)), "ringsearch: problem 7 Mark 22\n"),
+    (Problem(CallLength(0, 1)), "ringsearch: problem 8 CallLength 0 1\n"),
+    (Problem(Clash(2, 13)), "ringsearch: problem 9 Clash 2 13\n"),
+    (Problem(Steps(0)), "ringsearch: problem 10 Steps 0\n"),
+    (Problem(Steps(9)), "ringsearch: problem 10 Steps 9\n"),
+    (Problem(Steps(10)), "ringsearch: problem 10 Steps 10\n"),
+    (Problem(Steps(u64::MAX)), "ringsearch: problem 10 Steps 18446744073709551615\n"),
+    (Problem(Range(-1, 120)), "ringsearch: problem 11 Range -1 120\n"),
     (
         Problem(Range(i64::MIN, i64::MAX)),
-        "11 Range -9223372036854775808 9223372036854775807",
+        "ringsearch: problem 11 Range -9223372036854775808 9223372036854775807\n",
     ),
-    (Problem(Deep(1500)), "12 Deep 1500"),
-    (Problem(Parts(65)), "13 Parts 65"),
-    (Problem(Count(CountAt::Mark(1))), "14 Count count 1"),
-    (Problem(Count(CountAt::Method(0))), "14 Count leads 0"),
-    (Problem(Pattern(32)), "15 Pattern 32"),
-    (Problem(NoMemory), "16 NoMemory"),
-    (Problem(Com), "17 Com"),
+    (Problem(Deep(1500)), "ringsearch: problem 12 Deep 1500\n"),
+    (Problem(Parts(65)), "ringsearch: problem 13 Parts 65\n"),
+    (Problem(Count(CountAt::Mark(1))), "ringsearch: problem 14 Count count 1\n"),
+    (Problem(Count(CountAt::Method(0))), "ringsearch: problem 14 Count leads 0\n"),
+    (Problem(Pattern(32)), "ringsearch: problem 15 Pattern 32\n"),
+    (Problem(NoMemory), "ringsearch: problem 16 NoMemory\n"),
+    (Problem(Com), "ringsearch: problem 17 Com\n"),
 ];
 
 #[test]
 fn each_fault_has_its_details(rt: HostRuntime) -> Result<(), Fail> {
-    for (status, words) in &FAULTS {
-        let line = format!(in rt.alloc(); "ringsearch: problem {words}\n")?;
+    for (status, line) in &FAULTS {
         let mut notes = SureSink::new(rt.alloc());
         write_note(&mut notes, status);
-        let note = notes.bytes().ok_or("a write found no memory")?;
-        assert_eq!(rt; note, line.as_bytes());
+        holds(line, notes.bytes())?;
     }
     Ok(())
 }
@@ -129,8 +137,7 @@ fn paths_are_shown(rt: HostRuntime) -> Result<(), Fail> {
         let bytes = Vec::from_slice(rt.alloc(), path)?;
         let mut notes = SureSink::new(rt.alloc());
         write_note(&mut notes, &Problem(Key(KeyPath { bytes })));
-        let note = notes.bytes().ok_or("a write found no memory")?;
-        assert_eq!(rt; note, line.as_bytes());
+        holds(line, notes.bytes())?;
     }
     Ok(())
 }
@@ -153,8 +160,7 @@ fn a_fault_ends_the_line(rt: HostRuntime) -> Result<(), Fail> {
     for (fail, most, written) in BROKEN {
         let mut notes = MemSink::new(alloc, Vec::from_slice(alloc, &[fail])?, most);
         write_note(&mut notes, &Problem(Stage(17)));
-        let note = notes.bytes().ok_or("a write found no memory")?;
-        assert_eq!(rt; note, written.as_bytes());
+        holds(written, notes.bytes())?;
     }
     Ok(())
 }

@@ -4,7 +4,6 @@ use super::ringsearch;
 use crate::book::calling_text;
 use cr_io::{MemSink, MemSource};
 use cr_read::read_problem;
-use std::process::Abort;
 use std::test::Fail;
 
 // Which case it is, the stage, the method, the least and the greatest length, and the book.
@@ -106,7 +105,14 @@ const BOOKS: [(&str, u8, &str, u32, u32, &str); 21] = [
 fn books_of_one_plain_lead(rt: HostRuntime) -> Result<(), Fail> {
     for (name, stage, notation, min, max, book) in BOOKS {
         let input = format!(in rt.alloc();
-            "stage = {stage}\n[[method]]\nletter = \"A\"\nnotation = \"{notation}\"\n[query]\nmin = {min}\nmax = {max}\n"
+            "stage = {stage}
+[[method]]
+letter = \"A\"
+notation = \"{notation}\"
+[query]
+min = {min}
+max = {max}
+"
         )?;
         run(&rt, (name, &[], &input, (0, 0, 0), 0, book, ""))?;
     }
@@ -116,7 +122,7 @@ fn books_of_one_plain_lead(rt: HostRuntime) -> Result<(), Fail> {
 // Which case it is, the words, the input, which call of the source, of the sink and of the notes fails,
 // and the status, what is written, and the note.
 type Call<'a> = (
-    &'a str,
+    &'static str,
     &'a [&'a str],
     &'a str,
     (u64, u64, u64),
@@ -125,17 +131,44 @@ type Call<'a> = (
     &'a str,
 );
 
-const MINIMUS: &str =
-    "stage = 4\n[[method]]\nletter = \"A\"\nnotation = \"x14x14,12\"\n[query]\nmin = 1\nmax = 24\n";
+const MINIMUS: &str = "stage = 4
+[[method]]
+letter = \"A\"
+notation = \"x14x14,12\"
+[query]
+min = 1
+max = 24
+";
 
-const BOBS: &str =
-    "stage = 5\n[[method]]\nletter = \"A\"\nnotation = \"5.1.5.1.5,125\"\n[[call]]\nmark = \"b\"\nnotation = \"145\"\n[query]\nmin = 1\nmax = 120\n";
+const BOBS: &str = "stage = 5
+[[method]]
+letter = \"A\"
+notation = \"5.1.5.1.5,125\"
+[[call]]
+mark = \"b\"
+notation = \"145\"
+[query]
+min = 1
+max = 120
+";
 
-const DEEP: &str =
-    "stage = 8\n[[method]]\nletter = \"A\"\nnotation = \"x\"\n[query]\nmin = 1\nmax = 1025\n";
+const DEEP: &str = "stage = 8
+[[method]]
+letter = \"A\"
+notation = \"x\"
+[query]
+min = 1
+max = 1025
+";
 
-const ODD: &str =
-    "stage = 5\n[[method]]\nletter = \"A\"\nnotation = \"x14\"\n[query]\nmin = 1\nmax = 24\n";
+const ODD: &str = "stage = 5
+[[method]]
+letter = \"A\"
+notation = \"x14\"
+[query]
+min = 1
+max = 24
+";
 
 const DONE: &str = "24 ppp\ntouches 1\n";
 
@@ -287,8 +320,9 @@ fn words_inputs_and_faults(rt: HostRuntime) -> Result<(), Fail> {
     Ok(())
 }
 
-// One call of the whole. The source gives at most 50 bytes at a time, the sink takes at most 10.
-fn run<R: AllocGlobal + Abort>(rt: &R, call: Call) -> Result<(), Fail> {
+// One call of the whole. The source gives at most 50 bytes at a time, the sink takes at most 10. Err with
+// the name of the case where anything differs.
+fn run<R: AllocGlobal>(rt: &R, call: Call) -> Result<(), Fail> {
     let (name, words, input, (read, write, note), code, written, noted) = call;
     let alloc = rt.alloc();
     let mut list = Vec::new(alloc);
@@ -300,14 +334,30 @@ fn run<R: AllocGlobal + Abort>(rt: &R, call: Call) -> Result<(), Fail> {
     let mut sink = MemSink::new(alloc, [write].to_vec(alloc)?, 10);
     let mut notes = MemSink::new(alloc, [note].to_vec(alloc)?, 100);
     let status = ringsearch(rt, &list, &mut source, &mut sink, &mut notes);
-    assert_eq!(rt; status.code(), code, "{name}");
-    assert_eq!(rt; sink.bytes(), Some(written.as_bytes()), "{name}");
-    assert_eq!(rt; notes.bytes(), Some(noted.as_bytes()), "{name}");
-    Ok(())
+    if status.code() == code
+        && sink.bytes() == Some(written.as_bytes())
+        && notes.bytes() == Some(noted.as_bytes())
+    {
+        Ok(())
+    } else {
+        Err(Fail::from(name))
+    }
 }
 
-const TWO_METHODS: &[u8] =
-    b"stage = 4\n[[method]]\nletter = \"X\"\nnotation = \"x14\"\n[[method]]\nletter = \"K\"\nnotation = \"x12\"\n[[call]]\nmark = \"b\"\nnotation = \"14\"\n[query]\nmin = 1\nmax = 24\n";
+const TWO_METHODS: &[u8] = b"stage = 4
+[[method]]
+letter = \"X\"
+notation = \"x14\"
+[[method]]
+letter = \"K\"
+notation = \"x12\"
+[[call]]
+mark = \"b\"
+notation = \"14\"
+[query]
+min = 1
+max = 24
+";
 
 // Which steps are rung, and the calling's text. The steps are p and b of X, and then those of K.
 const CALLINGS: [(&[u8], &str); 4] = [
@@ -324,9 +374,13 @@ fn texts_of_several_steps(rt: HostRuntime) -> Result<(), Fail> {
         Err(_) => return Err(Fail::from("the file is a problem's")),
     };
     for (steps, want) in CALLINGS {
-        assert!(rt; problem.has_steps(steps), "{want}");
+        if !problem.has_steps(steps) {
+            return Err(Fail::from(want));
+        }
         let text = calling_text(rt.alloc(), &problem, steps)?;
-        assert_eq!(rt; text.as_slice(), want.as_bytes());
+        if text.as_slice() != want.as_bytes() {
+            return Err(Fail::from(want));
+        }
     }
     Ok(())
 }

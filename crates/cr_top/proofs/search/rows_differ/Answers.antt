@@ -4,7 +4,7 @@ use Rattle.std.specs.Ordering.{is_eq}
 use Rattle.std.proofs.lemmas.List.{get_or_default}
 use Rattle.cr_row.specs.Order.{row_cmp}
 use Rattle.cr_top.proofs.Differing.{not_before, seen_more}
-use Rattle.cr_top.proofs.search.all_differ.Goals as goal
+use Rattle.cr_top.proofs.search.rows_differ.Goals as goal
 
 pub loop-row-preserved : goal.loop-row-preserved
 loop-row-preserved c =
