@@ -116,13 +116,19 @@ fn gives_what_it_can(rt: HostRuntime) -> Result<(), Fail> {
     let mut buf = [9; 4];
     let empty = source.read(&mut []);
     let failed = source.read(&mut buf);
-    holds("the second call fails", empty == Ok(0) && failed == Err(Failed) && source.fault_count() == 1)?;
+    holds(
+        "the second call fails",
+        empty == Ok(0) && failed == Err(Failed) && source.fault_count() == 1,
+    )?;
     let three = source.read(&mut buf);
     holds("three at most", three == Ok(3) && buf == [0, 1, 2, 9])?;
     let two = sure.read(&mut buf);
     let none = sure.read(&mut buf);
     holds("all that is left", two == Ok(2) && buf == [0, 1, 2, 9])?;
-    holds("the end is no fault", none == Ok(0) && sure.fault_count() == 0)
+    holds(
+        "the end is no fault",
+        none == Ok(0) && sure.fault_count() == 0,
+    )
 }
 
 // Which case it is, how many bytes the text has, how many a call takes at most, which call fails, and
@@ -145,7 +151,10 @@ fn writes_until_a_fault(rt: HostRuntime) -> Result<(), Fail> {
         let mut sink = MemSink::new(alloc, Vec::from_slice(alloc, &[fail])?, most);
         let is_whole = write_whole(&mut sink, &text).is_ok();
         let bytes = sink.bytes().ok_or("a write found no memory")?;
-        holds(name, is_whole == (written == count) && bytes == &text[..bytes.len().min(text.len())])?;
+        holds(
+            name,
+            is_whole == (written == count) && bytes == &text[..bytes.len().min(text.len())],
+        )?;
         holds(name, bytes.len() as u64 == written)?;
     }
     Ok(())
@@ -172,7 +181,10 @@ fn no_piece_is_lost(rt: HostRuntime) -> Result<(), Fail> {
         // The first call fails, and the second takes it whole.
         let mut sink = MemSink::new(alloc, Vec::from_slice(alloc, &[1])?, 200_000);
         let failed = sink.write(piece);
-        holds(name, failed == Err(Failed) && sink.bytes() == Some([].as_slice()))?;
+        holds(
+            name,
+            failed == Err(Failed) && sink.bytes() == Some([].as_slice()),
+        )?;
         let taken = sink.write(piece);
         holds(name, taken == Ok(length) && sink.bytes() == Some(piece))?;
     }
@@ -220,11 +232,20 @@ fn a_reader_that_errs_once(_: HostRuntime) -> Result<(), Fail> {
     let mut buf = [9; 5_000];
     let mut source = StdSource::new(ErrsOnce { has_erred: false });
     let failed = source.read(&mut buf);
-    holds("its error is one fault", failed == Err(Failed) && source.fault_count() == 1)?;
+    holds(
+        "its error is one fault",
+        failed == Err(Failed) && source.fault_count() == 1,
+    )?;
     holds("nothing was given", source.given() == 0)?;
     let long = source.read(&mut buf);
-    holds("it gives 5,000 bytes", long == Ok(5_000) && source.given() == 5_000)?;
-    holds("they are no fault", source.fault_count() == 1 && buf[0] == 7 && buf[4_999] == 7)
+    holds(
+        "it gives 5,000 bytes",
+        long == Ok(5_000) && source.given() == 5_000,
+    )?;
+    holds(
+        "they are no fault",
+        source.fault_count() == 1 && buf[0] == 7 && buf[4_999] == 7,
+    )
 }
 
 #[test]
@@ -232,10 +253,16 @@ fn a_writer_that_errs_once(_: HostRuntime) -> Result<(), Fail> {
     let piece = [7; 5_000];
     let mut sink = StdSink::new(ErrsOnce { has_erred: false });
     let failed = sink.write(&piece);
-    holds("its error is one fault", failed == Err(Failed) && sink.fault_count() == 1)?;
+    holds(
+        "its error is one fault",
+        failed == Err(Failed) && sink.fault_count() == 1,
+    )?;
     holds("nothing was taken", sink.taken() == 0)?;
     let long = sink.write(&piece);
-    holds("it takes 5,000 bytes", long == Ok(5_000) && sink.taken() == 5_000)?;
+    holds(
+        "it takes 5,000 bytes",
+        long == Ok(5_000) && sink.taken() == 5_000,
+    )?;
     holds("they are no fault", sink.fault_count() == 1)
 }
 
@@ -244,9 +271,18 @@ fn a_writer_that_is_full(_: HostRuntime) -> Result<(), Fail> {
     let mut room = [0; 2];
     let mut sink = StdSink::new(room.as_mut_slice());
     let end = write_whole(&mut sink, &[7, 8, 9]);
-    holds("it takes two bytes", end == Err(WriteFault) && sink.taken() == 2)?;
-    holds("that it takes no more is one fault", sink.fault_count() == 1)?;
+    holds(
+        "it takes two bytes",
+        end == Err(WriteFault) && sink.taken() == 2,
+    )?;
+    holds(
+        "that it takes no more is one fault",
+        sink.fault_count() == 1,
+    )?;
     let none = sink.write(&[]);
-    holds("an empty piece is no fault", none == Ok(0) && sink.fault_count() == 1)?;
+    holds(
+        "an empty piece is no fault",
+        none == Ok(0) && sink.fault_count() == 1,
+    )?;
     holds("the two bytes are there", room == [7, 8])
 }
