@@ -8,7 +8,7 @@ use Rattle.cr_model.specs.Callings.{HasSteps, changes_of, changes_of_all, lead_l
 use Rattle.cr_model.specs.Queries.{cap, MeetsCom, repeated, changes_of_method}
 use Rattle.cr_model.specs.Touches.{Wanted}
 use Rattle.cr_model.specs.Sound.{IsSound}
-use Rattle.cr_top.proofs.Ringing.{shortest_plain, within}
+use Rattle.cr_top.proofs.PlainLeads.{shortest_plain, within}
 use Rattle.cr_top.specs.Plain.{IsPlain, plain_leads, ComesHome, IsCourse}
 
 -- each lead is plain
