@@ -1,5 +1,7 @@
+use super::Cell::{Any, Bell, Run};
 use super::*;
 use cr_row::{Change, Stage};
+use std::fmt::Write;
 use std::test::Fail;
 
 // A lead by its method, mark and number of changes.
@@ -24,35 +26,28 @@ struct Draft {
 
 const GOOD: &[LeadRow] = &[LeadRow(0, b'p', 2), LeadRow(0, b'b', 2)];
 
-fn base() -> Draft {
-    Draft {
-        stage: 4,
-        letters: b"A",
-        leads: GOOD,
-        min: 1,
-        max: 24,
-        parts: 1,
-        counts: &[],
-        method_counts: &[],
-        cells: &[],
-        patterns: 0,
-        com: None,
-    }
-}
+const BASE: Draft = Draft {
+    stage: 4,
+    letters: b"A",
+    leads: GOOD,
+    min: 1,
+    max: 24,
+    parts: 1,
+    counts: &[],
+    method_counts: &[],
+    cells: &[],
+    patterns: 0,
+    com: None,
+};
 
 fn stage_of(number: u8) -> Result<Stage, Fail> {
-    match Stage::new(number) {
-        Some(stage) => Ok(stage),
-        None => Err(Fail::from("stage")),
-    }
+    Ok(Stage::new(number).ok_or("the stage is from 3 to 16")?)
 }
 
 fn change_of(stage: Stage) -> Result<Change, Fail> {
     let places: &[u8] = if stage.number() % 2 == 0 { &[] } else { &[1] };
-    match Change::from_places(stage, places) {
-        Ok(change) => Ok(change),
-        Err(_) => Err(Fail::from("change")),
-    }
+    let change = Change::from_places(stage, places).ok();
+    Ok(change.ok_or("the places are those of a change")?)
 }
 
 fn leads_of(rt: &HostRuntime, stage: Stage, rows: &[LeadRow]) -> Result<Vec<Lead>, Fail> {
@@ -63,13 +58,11 @@ fn leads_of(rt: &HostRuntime, stage: Stage, rows: &[LeadRow]) -> Result<Vec<Lead
         for _ in 0..row.2 {
             changes.push(change)?;
         }
-        leads.push(Lead {
-            step: Step {
-                method: row.0,
-                mark: row.1,
-            },
-            changes,
-        })?;
+        let step = Step {
+            method: row.0,
+            mark: row.1,
+        };
+        leads.push(Lead { step, changes })?;
     }
     Ok(leads)
 }
@@ -102,91 +95,472 @@ fn made(rt: &HostRuntime, draft: &Draft) -> Result<Result<Problem, PartFault>, F
     Ok(Problem::new(stage, letters, leads, query))
 }
 
-fn fault(rt: &HostRuntime, draft: &Draft) -> Result<Option<PartFault>, Fail> {
+fn problem(rt: &HostRuntime, draft: &Draft) -> Result<Problem, Fail> {
     match made(rt, draft)? {
-        Ok(_) => Ok(None),
-        Err(fault) => Ok(Some(fault)),
+        Ok(problem) => Ok(problem),
+        Err(_) => Err(Fail::from("the parts are refused")),
     }
 }
 
-const SEVENTEEN: &[Count] = &[Count {
+// What is wrong with a draft, by the name of the case.
+#[derive(Clone, Copy)]
+struct Case(&'static str, Draft, Option<PartFault>);
+
+const LEAD_CASES: [Case; 15] = [
+    Case(
+        "no letter",
+        Draft {
+            letters: b"",
+            ..BASE
+        },
+        Some(PartFault::Letters(0)),
+    ),
+    Case(
+        "a small letter",
+        Draft {
+            letters: b"a",
+            ..BASE
+        },
+        Some(PartFault::Letters(0)),
+    ),
+    Case(
+        "a letter again",
+        Draft {
+            letters: b"AbA",
+            ..BASE
+        },
+        Some(PartFault::Letters(1)),
+    ),
+    Case(
+        "nine letters",
+        Draft {
+            letters: b"ABCDEFGHI",
+            ..BASE
+        },
+        Some(PartFault::Letters(8)),
+    ),
+    Case(
+        "no lead",
+        Draft { leads: &[], ..BASE },
+        Some(PartFault::Leads(0)),
+    ),
+    Case(
+        "no plain lead",
+        Draft {
+            leads: &[LeadRow(0, b'b', 2)],
+            ..BASE
+        },
+        Some(PartFault::Leads(0)),
+    ),
+    Case(
+        "no change",
+        Draft {
+            leads: &[LeadRow(0, b'p', 0)],
+            ..BASE
+        },
+        Some(PartFault::Leads(0)),
+    ),
+    Case(
+        "129 changes",
+        Draft {
+            leads: &[LeadRow(0, b'p', 129)],
+            ..BASE
+        },
+        Some(PartFault::Leads(0)),
+    ),
+    Case(
+        "128 changes",
+        Draft {
+            leads: &[LeadRow(0, b'p', 128)],
+            ..BASE
+        },
+        None,
+    ),
+    Case(
+        "a mark again",
+        Draft {
+            leads: &[
+                LeadRow(0, b'p', 2),
+                LeadRow(0, b'b', 2),
+                LeadRow(0, b'b', 2),
+            ],
+            ..BASE
+        },
+        Some(PartFault::Leads(2)),
+    ),
+    Case(
+        "marks that fall",
+        Draft {
+            leads: &[
+                LeadRow(0, b'p', 2),
+                LeadRow(0, b'c', 2),
+                LeadRow(0, b'b', 2),
+            ],
+            ..BASE
+        },
+        Some(PartFault::Leads(2)),
+    ),
+    Case(
+        "a capital mark",
+        Draft {
+            leads: &[LeadRow(0, b'p', 2), LeadRow(0, b'B', 2)],
+            ..BASE
+        },
+        Some(PartFault::Leads(1)),
+    ),
+    Case(
+        "a method too many",
+        Draft {
+            leads: &[LeadRow(0, b'p', 2), LeadRow(1, b'p', 2)],
+            ..BASE
+        },
+        Some(PartFault::Leads(1)),
+    ),
+    Case(
+        "a method left out",
+        Draft {
+            letters: b"ABC",
+            leads: &[LeadRow(0, b'p', 2), LeadRow(2, b'p', 2)],
+            ..BASE
+        },
+        Some(PartFault::Leads(1)),
+    ),
+    Case(
+        "a method without leads",
+        Draft {
+            letters: b"AB",
+            leads: &[LeadRow(0, b'p', 2), LeadRow(0, b'b', 2)],
+            ..BASE
+        },
+        Some(PartFault::Leads(2)),
+    ),
+];
+
+const FEW: &[LeadRow] = &[LeadRow(0, b'p', 1)];
+
+const LENGTH_CASES: [Case; 11] = [
+    Case(
+        "least length 0",
+        Draft { min: 0, ..BASE },
+        Some(PartFault::Range(0, 24)),
+    ),
+    Case(
+        "lengths the wrong way round",
+        Draft {
+            min: 2,
+            max: 1,
+            ..BASE
+        },
+        Some(PartFault::Range(2, 1)),
+    ),
+    Case(
+        "a length of 12,001",
+        Draft {
+            max: 12_001,
+            ..BASE
+        },
+        Some(PartFault::Range(1, 12_001)),
+    ),
+    Case(
+        "no part",
+        Draft { parts: 0, ..BASE },
+        Some(PartFault::Parts(0)),
+    ),
+    Case(
+        "65 parts",
+        Draft { parts: 65, ..BASE },
+        Some(PartFault::Parts(65)),
+    ),
+    Case("64 parts", Draft { parts: 64, ..BASE }, None),
+    Case(
+        "-1 parts",
+        Draft { parts: -1, ..BASE },
+        Some(PartFault::Parts(-1)),
+    ),
+    Case(
+        "1,024 leads",
+        Draft {
+            stage: 8,
+            leads: FEW,
+            max: 1_024,
+            ..BASE
+        },
+        None,
+    ),
+    Case(
+        "1,025 leads",
+        Draft {
+            stage: 8,
+            leads: FEW,
+            max: 1_025,
+            ..BASE
+        },
+        Some(PartFault::Deep(1_025)),
+    ),
+    Case(
+        "12,000 changes, of which 720 are on six bells",
+        Draft {
+            stage: 6,
+            leads: FEW,
+            max: 12_000,
+            ..BASE
+        },
+        None,
+    ),
+    Case(
+        "12,000 changes, of which 5,040 are on seven bells",
+        Draft {
+            stage: 7,
+            leads: FEW,
+            max: 12_000,
+            ..BASE
+        },
+        Some(PartFault::Deep(5_040)),
+    ),
+];
+
+const BOBS: Count = Count {
     mark: b'b',
     min: 0,
     max: 12_000,
-}; 17];
+};
 
-const METHODS: &[MethodCount] = &[MethodCount {
+const LEADS: MethodCount = MethodCount {
     letter: b'A',
     min: 0,
     max: 12_000,
-}; 17];
+};
 
-#[test]
-fn faults_of_letters(rt: HostRuntime) -> Result<(), Fail> {
-    let rows: [(&'static [u8], u64); 6] = [
-        (b"", 0),
-        (b"a", 0),
-        (b"AA", 1),
-        (b"AbA", 1),
-        (b"ABCDEFGHI", 8),
-        (b"ABCDEFGH[", 8),
-    ];
-    for (letters, index) in rows {
-        let mut draft = base();
-        draft.letters = letters;
-        assert_eq!(rt; fault(&rt, &draft)?, Some(PartFault::Letters(index)));
+const COUNT_CASES: [Case; 9] = [
+    Case(
+        "sixteen counts",
+        Draft {
+            counts: &[BOBS; 16],
+            ..BASE
+        },
+        None,
+    ),
+    Case(
+        "seventeen counts",
+        Draft {
+            counts: &[BOBS; 17],
+            ..BASE
+        },
+        Some(PartFault::Count(CountAt::Mark(16))),
+    ),
+    Case(
+        "a count of no mark",
+        Draft {
+            counts: &[BOBS, Count { mark: b'z', ..BOBS }],
+            ..BASE
+        },
+        Some(PartFault::Count(CountAt::Mark(1))),
+    ),
+    Case(
+        "a count from -1",
+        Draft {
+            counts: &[Count { min: -1, ..BOBS }],
+            ..BASE
+        },
+        Some(PartFault::Count(CountAt::Mark(0))),
+    ),
+    Case(
+        "a count the wrong way round",
+        Draft {
+            counts: &[Count {
+                min: 2,
+                max: 1,
+                ..BOBS
+            }],
+            ..BASE
+        },
+        Some(PartFault::Count(CountAt::Mark(0))),
+    ),
+    Case(
+        "a count to 12,001",
+        Draft {
+            counts: &[Count {
+                max: 12_001,
+                ..BOBS
+            }],
+            ..BASE
+        },
+        Some(PartFault::Count(CountAt::Mark(0))),
+    ),
+    Case(
+        "seventeen method counts",
+        Draft {
+            method_counts: &[LEADS; 17],
+            ..BASE
+        },
+        Some(PartFault::Count(CountAt::Method(16))),
+    ),
+    Case(
+        "a method count of no letter",
+        Draft {
+            method_counts: &[
+                LEADS,
+                MethodCount {
+                    letter: b'B',
+                    ..LEADS
+                },
+            ],
+            ..BASE
+        },
+        Some(PartFault::Count(CountAt::Method(1))),
+    ),
+    Case(
+        "a method count the wrong way round",
+        Draft {
+            method_counts: &[MethodCount {
+                min: 2,
+                max: 1,
+                ..LEADS
+            }],
+            ..BASE
+        },
+        Some(PartFault::Count(CountAt::Method(0))),
+    ),
+];
+
+const PATTERN_CASES: [Case; 11] = [
+    Case(
+        "thirty-two patterns",
+        Draft {
+            cells: &[Any, Bell(4), Run],
+            patterns: 32,
+            ..BASE
+        },
+        None,
+    ),
+    Case(
+        "thirty-three patterns",
+        Draft {
+            cells: &[Any, Bell(4), Run],
+            patterns: 33,
+            ..BASE
+        },
+        Some(PartFault::Pattern(32)),
+    ),
+    Case(
+        "as many cells as bells",
+        Draft {
+            cells: &[Any, Any, Any, Any],
+            patterns: 1,
+            ..BASE
+        },
+        None,
+    ),
+    Case(
+        "and a run",
+        Draft {
+            cells: &[Any, Any, Any, Any, Run],
+            patterns: 1,
+            ..BASE
+        },
+        None,
+    ),
+    Case(
+        "a run alone",
+        Draft {
+            cells: &[Run],
+            patterns: 1,
+            ..BASE
+        },
+        None,
+    ),
+    Case(
+        "a bell above the stage",
+        Draft {
+            cells: &[Bell(5), Run],
+            patterns: 2,
+            ..BASE
+        },
+        Some(PartFault::Pattern(0)),
+    ),
+    Case(
+        "a bell twice",
+        Draft {
+            cells: &[Bell(2), Run, Bell(2)],
+            patterns: 1,
+            ..BASE
+        },
+        Some(PartFault::Pattern(0)),
+    ),
+    Case(
+        "two runs",
+        Draft {
+            cells: &[Run, Bell(2), Run],
+            patterns: 1,
+            ..BASE
+        },
+        Some(PartFault::Pattern(0)),
+    ),
+    Case(
+        "too few cells",
+        Draft {
+            cells: &[Any, Any, Any],
+            patterns: 1,
+            ..BASE
+        },
+        Some(PartFault::Pattern(0)),
+    ),
+    Case(
+        "too many cells",
+        Draft {
+            cells: &[Any, Any, Any, Any, Any],
+            patterns: 1,
+            ..BASE
+        },
+        Some(PartFault::Pattern(0)),
+    ),
+    Case(
+        "too many cells and a run",
+        Draft {
+            cells: &[Any, Any, Any, Any, Any, Run],
+            patterns: 1,
+            ..BASE
+        },
+        Some(PartFault::Pattern(0)),
+    ),
+];
+
+fn each_is_told(rt: &HostRuntime, cases: &[Case]) -> Result<(), Fail> {
+    for case in cases {
+        if made(rt, &case.1)?.err() != case.2 {
+            return Err(Fail::from(case.0));
+        }
     }
     Ok(())
 }
 
 #[test]
-fn faults_of_leads(rt: HostRuntime) -> Result<(), Fail> {
-    let rows: [(&'static [u8], &'static [LeadRow], u64); 13] = [
-        (b"A", &[], 0),
-        (b"A", &[LeadRow(0, b'b', 2)], 0),
-        (b"A", &[LeadRow(1, b'p', 2)], 0),
-        (b"A", &[LeadRow(0, b'p', 0)], 0),
-        (b"A", &[LeadRow(0, b'p', 129)], 0),
-        (b"A", &[LeadRow(0, b'p', 2), LeadRow(0, b'p', 2)], 1),
-        (
-            b"A",
-            &[
-                LeadRow(0, b'p', 2),
-                LeadRow(0, b'c', 2),
-                LeadRow(0, b'b', 2),
-            ],
-            2,
-        ),
-        (
-            b"A",
-            &[
-                LeadRow(0, b'p', 2),
-                LeadRow(0, b'b', 2),
-                LeadRow(0, b'b', 2),
-            ],
-            2,
-        ),
-        (b"A", &[LeadRow(0, b'p', 2), LeadRow(0, b'B', 2)], 1),
-        (b"A", &[LeadRow(0, b'p', 2), LeadRow(1, b'p', 2)], 1),
-        (b"ABC", &[LeadRow(0, b'p', 2), LeadRow(2, b'p', 2)], 1),
-        (b"AB", &[LeadRow(0, b'p', 2), LeadRow(1, b'b', 2)], 1),
-        (b"AB", &[LeadRow(0, b'p', 2), LeadRow(0, b'b', 2)], 2),
-    ];
-    for (letters, leads, index) in rows {
-        let mut draft = base();
-        draft.letters = letters;
-        draft.leads = leads;
-        assert_eq!(rt; fault(&rt, &draft)?, Some(PartFault::Leads(index)));
-    }
-    let other_stage = leads_of(&rt, stage_of(6)?, GOOD)?;
-    let query = query_of(&rt, &base())?;
-    match Problem::new(stage_of(4)?, b"A".to_vec(rt.alloc())?, other_stage, query) {
-        Ok(_) => Err(Fail::from("a change of another stage was accepted")),
-        Err(fault) => {
-            assert_eq!(rt; fault, PartFault::Leads(0));
-            Ok(())
-        }
-    }
+fn faults_of_letters_and_leads(rt: HostRuntime) -> Result<(), Fail> {
+    each_is_told(&rt, &LEAD_CASES)?;
+    let leads = leads_of(&rt, stage_of(6)?, GOOD)?;
+    let query = query_of(&rt, &BASE)?;
+    let made = Problem::new(stage_of(4)?, b"A".to_vec(rt.alloc())?, leads, query);
+    assert_eq!(rt;
+        made.err(),
+        Some(PartFault::Leads(0)),
+        "changes of another stage"
+    );
+    Ok(())
+}
+
+#[test]
+fn faults_of_lengths(rt: HostRuntime) -> Result<(), Fail> {
+    each_is_told(&rt, &LENGTH_CASES)
+}
+
+#[test]
+fn faults_of_counts(rt: HostRuntime) -> Result<(), Fail> {
+    each_is_told(&rt, &COUNT_CASES)
+}
+
+#[test]
+fn faults_of_patterns(rt: HostRuntime) -> Result<(), Fail> {
+    each_is_told(&rt, &PATTERN_CASES)
 }
 
 // One more lead than there may be.
@@ -218,258 +592,171 @@ const MANY: &[LeadRow] = &[
     LeadRow(0, b'y', 1),
 ];
 
-const FEW: &[LeadRow] = &[LeadRow(0, b'p', 1)];
+// Everything is wrong; each draft after it mends one thing more.
+const ALL_WRONG: Draft = Draft {
+    stage: 8,
+    letters: b"a",
+    leads: &[],
+    min: 0,
+    max: 2_050,
+    parts: 0,
+    counts: &[Count { mark: b'z', ..BOBS }],
+    method_counts: &[MethodCount {
+        letter: b'Z',
+        ..LEADS
+    }],
+    cells: &[Bell(9)],
+    patterns: 1,
+    com: Some(Com { min: 2, max: 1 }),
+};
 
-#[test]
-fn faults_of_numbers(rt: HostRuntime) -> Result<(), Fail> {
-    let rows: [(u8, i64, i64, i64, Option<PartFault>); 11] = [
-        (4, 0, 24, 1, Some(PartFault::Range(0, 24))),
-        (4, -5, 24, 1, Some(PartFault::Range(-5, 24))),
-        (4, 2, 1, 1, Some(PartFault::Range(2, 1))),
-        (4, 1, 12_001, 1, Some(PartFault::Range(1, 12_001))),
-        (4, 1, 24, 0, Some(PartFault::Parts(0))),
-        (4, 1, 24, 65, Some(PartFault::Parts(65))),
-        (4, 1, 24, -1, Some(PartFault::Parts(-1))),
-        (8, 1, 1024, 1, None),
-        (8, 1, 1025, 1, Some(PartFault::Deep(1025))),
-        (6, 1, 12_000, 1, None),
-        (7, 1, 12_000, 1, Some(PartFault::Deep(5040))),
-    ];
-    for (stage, min, max, parts, wrong) in rows {
-        let mut draft = base();
-        draft.stage = stage;
-        draft.leads = FEW;
-        draft.min = min;
-        draft.max = max;
-        draft.parts = parts;
-        assert_eq!(rt; fault(&rt, &draft)?, wrong);
-    }
-    Ok(())
-}
+const LETTERS_MENDED: Draft = Draft {
+    letters: b"A",
+    ..ALL_WRONG
+};
 
-#[test]
-fn faults_of_counts(rt: HostRuntime) -> Result<(), Fail> {
-    let marks: [(&'static [Count], Option<PartFault>); 6] = [
-        (
-            &[Count {
-                mark: b'b',
-                min: 0,
-                max: 12_000,
-            }; 16],
-            None,
-        ),
-        (SEVENTEEN, Some(PartFault::Count(CountAt::Mark(16)))),
-        (
-            &[
-                Count {
-                    mark: b'p',
-                    min: 0,
-                    max: 1,
-                },
-                Count {
-                    mark: b'z',
-                    min: 0,
-                    max: 1,
-                },
-            ],
-            Some(PartFault::Count(CountAt::Mark(1))),
-        ),
-        (
-            &[Count {
-                mark: b'b',
-                min: -1,
-                max: 1,
-            }],
-            Some(PartFault::Count(CountAt::Mark(0))),
-        ),
-        (
-            &[Count {
-                mark: b'p',
-                min: 2,
-                max: 1,
-            }],
-            Some(PartFault::Count(CountAt::Mark(0))),
-        ),
-        (
-            &[Count {
-                mark: b'b',
-                min: 0,
-                max: 12_001,
-            }],
-            Some(PartFault::Count(CountAt::Mark(0))),
-        ),
-    ];
-    for (counts, wrong) in marks {
-        let mut draft = base();
-        draft.counts = counts;
-        assert_eq!(rt; fault(&rt, &draft)?, wrong);
-    }
-    let letters: [(&'static [MethodCount], PartFault); 3] = [
-        (METHODS, PartFault::Count(CountAt::Method(16))),
-        (
-            &[
-                MethodCount {
-                    letter: b'A',
-                    min: 0,
-                    max: 0,
-                },
-                MethodCount {
-                    letter: b'B',
-                    min: 0,
-                    max: 1,
-                },
-            ],
-            PartFault::Count(CountAt::Method(1)),
-        ),
-        (
-            &[MethodCount {
-                letter: b'A',
-                min: 2,
-                max: 1,
-            }],
-            PartFault::Count(CountAt::Method(0)),
-        ),
-    ];
-    for (counts, wrong) in letters {
-        let mut draft = base();
-        draft.method_counts = counts;
-        assert_eq!(rt; fault(&rt, &draft)?, Some(wrong));
-    }
-    Ok(())
-}
+const MANY_STEPS: Draft = Draft {
+    leads: MANY,
+    ..LETTERS_MENDED
+};
 
-#[test]
-fn faults_of_patterns(rt: HostRuntime) -> Result<(), Fail> {
-    use Cell::{Any, Bell, Run};
-    let rows: [(&'static [Cell], usize, Option<PartFault>); 11] = [
-        (&[Any, Bell(4), Run], 32, None),
-        (&[Any, Bell(4), Run], 33, Some(PartFault::Pattern(32))),
-        (&[Any, Any, Any, Any], 1, None),
-        (&[Any, Any, Any, Any, Run], 1, None),
-        (&[Run], 1, None),
-        (&[Bell(5), Run], 2, Some(PartFault::Pattern(0))),
-        (&[Bell(2), Run, Bell(2)], 1, Some(PartFault::Pattern(0))),
-        (&[Run, Bell(2), Run], 1, Some(PartFault::Pattern(0))),
-        (&[Any, Any, Any], 1, Some(PartFault::Pattern(0))),
-        (&[Any, Any, Any, Any, Any], 1, Some(PartFault::Pattern(0))),
-        (
-            &[Any, Any, Any, Any, Any, Run],
-            1,
-            Some(PartFault::Pattern(0)),
-        ),
-    ];
-    for (cells, patterns, wrong) in rows {
-        let mut draft = base();
-        draft.cells = cells;
-        draft.patterns = patterns;
-        assert_eq!(rt; fault(&rt, &draft)?, wrong);
-    }
-    Ok(())
-}
+const STEPS_MENDED: Draft = Draft {
+    leads: GOOD,
+    ..MANY_STEPS
+};
 
-// What is mended, one thing after another.
-fn mended(mut draft: Draft, step: usize) -> Draft {
-    match step {
-        0 => {}
-        1 => draft.letters = b"A",
-        2 => draft.leads = MANY,
-        3 => draft.leads = GOOD,
-        4 => draft.min = 1,
-        5 => draft.max = 2048,
-        6 => draft.parts = 1,
-        7 => draft.counts = &[],
-        8 => draft.method_counts = &[],
-        9 => draft.patterns = 0,
-        _ => draft.com = None,
-    }
-    draft
-}
+const LEAST_MENDED: Draft = Draft {
+    min: 1,
+    ..STEPS_MENDED
+};
+
+const LENGTHS_MENDED: Draft = Draft {
+    max: 2_048,
+    ..LEAST_MENDED
+};
+
+const PARTS_MENDED: Draft = Draft {
+    parts: 1,
+    ..LENGTHS_MENDED
+};
+
+const COUNTS_MENDED: Draft = Draft {
+    counts: &[],
+    ..PARTS_MENDED
+};
+
+const METHODS_MENDED: Draft = Draft {
+    method_counts: &[],
+    ..COUNTS_MENDED
+};
+
+const PATTERNS_MENDED: Draft = Draft {
+    patterns: 0,
+    ..METHODS_MENDED
+};
+
+const ALL_MENDED: Draft = Draft {
+    com: None,
+    ..PATTERNS_MENDED
+};
+
+const ORDER_CASES: [Case; 11] = [
+    Case("all wrong", ALL_WRONG, Some(PartFault::Letters(0))),
+    Case("leads next", LETTERS_MENDED, Some(PartFault::Leads(0))),
+    Case("steps next", MANY_STEPS, Some(PartFault::Steps(25))),
+    Case(
+        "lengths next",
+        STEPS_MENDED,
+        Some(PartFault::Range(0, 2_050)),
+    ),
+    Case("depth next", LEAST_MENDED, Some(PartFault::Deep(1_025))),
+    Case("parts next", LENGTHS_MENDED, Some(PartFault::Parts(0))),
+    Case(
+        "counts next",
+        PARTS_MENDED,
+        Some(PartFault::Count(CountAt::Mark(0))),
+    ),
+    Case(
+        "method counts next",
+        COUNTS_MENDED,
+        Some(PartFault::Count(CountAt::Method(0))),
+    ),
+    Case("patterns next", METHODS_MENDED, Some(PartFault::Pattern(0))),
+    Case(
+        "changes of method last",
+        PATTERNS_MENDED,
+        Some(PartFault::Com),
+    ),
+    Case("nothing wrong", ALL_MENDED, None),
+];
 
 #[test]
 fn the_first_fault_comes_first(rt: HostRuntime) -> Result<(), Fail> {
-    let rows: [Option<PartFault>; 11] = [
-        Some(PartFault::Letters(0)),
-        Some(PartFault::Leads(0)),
-        Some(PartFault::Steps(25)),
-        Some(PartFault::Range(0, 2050)),
-        Some(PartFault::Deep(1025)),
-        Some(PartFault::Parts(0)),
-        Some(PartFault::Count(CountAt::Mark(0))),
-        Some(PartFault::Count(CountAt::Method(0))),
-        Some(PartFault::Pattern(0)),
-        Some(PartFault::Com),
-        None,
-    ];
-    let mut draft = Draft {
-        stage: 8,
-        letters: b"a",
-        leads: &[],
-        min: 0,
-        max: 2050,
-        parts: 0,
-        counts: &[Count {
-            mark: b'z',
-            min: 0,
-            max: 1,
-        }],
-        method_counts: &[MethodCount {
-            letter: b'Z',
-            min: 0,
-            max: 1,
-        }],
-        cells: &[Cell::Bell(9)],
-        patterns: 1,
-        com: Some(Com { min: 2, max: 1 }),
-    };
-    for (step, wrong) in rows.iter().enumerate() {
-        draft = mended(draft, step);
-        assert_eq!(rt; fault(&rt, &draft)?, *wrong);
-    }
-    Ok(())
+    each_is_told(&rt, &ORDER_CASES)
 }
+
+const TWO_PARTS: Draft = Draft {
+    leads: &[LeadRow(0, b'p', 8), LeadRow(0, b'b', 6)],
+    max: 11,
+    parts: 2,
+    counts: &[BOBS],
+    cells: &[Run],
+    patterns: 1,
+    com: Some(Com { min: 0, max: 1 }),
+    ..BASE
+};
 
 #[test]
 fn a_problem_tells_its_parts(rt: HostRuntime) -> Result<(), Fail> {
-    let mut draft = base();
-    draft.leads = &[LeadRow(0, b'p', 8), LeadRow(0, b'b', 6)];
-    draft.max = 11;
-    draft.parts = 2;
-    draft.counts = &[Count {
-        mark: b'b',
-        min: 0,
-        max: 2,
-    }];
-    draft.cells = &[Cell::Run];
-    draft.patterns = 1;
-    let Ok(problem) = made(&rt, &draft)? else {
-        return Err(Fail::from("refused"));
-    };
+    let first = problem(&rt, &TWO_PARTS)?;
     assert_eq!(rt;
-        (problem.cap(), problem.part_cap(), problem.shortest()),
+        (first.cap(), first.part_cap(), first.shortest()),
         (11, 5, 6)
     );
-    assert!(rt; problem.has_steps(&[0, 1]) && !problem.has_steps(&[0, 2]));
+    assert!(rt; first.has_steps(&[0, 1]) && !first.has_steps(&[0, 2]));
     let Ok(calling) = Calling::new([0u8, 1, 1].to_vec(rt.alloc())?) else {
-        return Err(Fail::from("long"));
+        return Err(Fail::from("the calling is short"));
     };
-    assert!(rt; problem.has_steps(calling.steps()));
-    assert_eq!(rt; problem.length_of(&calling), 20);
-    let copy = problem.copy(rt.alloc())?;
-    assert!(rt; copy.same(&problem));
-    draft.max = 12;
-    let Ok(other) = made(&rt, &draft)? else {
-        return Err(Fail::from("refused"));
-    };
-    assert!(rt; !other.same(&problem));
+    assert!(rt; first.has_steps(calling.steps()));
+    assert_eq!(rt; first.length_of(&calling), 20);
+    let copy = first.copy(rt.alloc())?;
+    assert!(rt; copy.same(&first));
+    let other = problem(
+        &rt,
+        &Draft {
+            max: 12,
+            ..TWO_PARTS
+        },
+    )?;
+    assert!(rt; !other.same(&first));
     Ok(())
 }
 
 #[test]
 fn a_calling_gives_its_steps(rt: HostRuntime) -> Result<(), Fail> {
     let Ok(calling) = Calling::new([2u8, 0, 1].to_vec(rt.alloc())?) else {
-        return Err(Fail::from("long"));
+        return Err(Fail::from("the calling is short"));
     };
     let copy = calling.copy(rt.alloc())?;
     assert_eq!(rt; copy.steps(), [2, 0, 1].as_slice());
+    Ok(())
+}
+
+#[test]
+fn faults_are_told_in_words(rt: HostRuntime) -> Result<(), Fail> {
+    let path = KeyPath {
+        bytes: b"query.min".to_vec(rt.alloc())?,
+    };
+    let mut text = String::new(rt.alloc());
+    write!(
+        text,
+        "{}, {}",
+        ProblemFault::Key(path),
+        PartFault::Count(CountAt::Mark(2))
+    )?;
+    assert_eq!(rt;
+        text.as_str(),
+        "the key query.min is missing, unknown or of the wrong kind, count 2 is of nothing that is rung, or its limits are no range from 0 to 12000"
+    );
     Ok(())
 }
