@@ -102,441 +102,97 @@ fn problem(rt: &HostRuntime, draft: &Draft) -> Result<Problem, Fail> {
     }
 }
 
-// What is wrong with a draft, by the name of the case.
-#[derive(Clone, Copy)]
-struct Case(&'static str, Draft, Option<PartFault>);
-
-const LEAD_CASES: [Case; 15] = [
-    Case(
-        "no letter",
-        Draft {
-            letters: b"",
-            ..BASE
-        },
-        Some(PartFault::Letters(0)),
-    ),
-    Case(
-        "a small letter",
-        Draft {
-            letters: b"a",
-            ..BASE
-        },
-        Some(PartFault::Letters(0)),
-    ),
-    Case(
-        "a letter again",
-        Draft {
-            letters: b"AbA",
-            ..BASE
-        },
-        Some(PartFault::Letters(1)),
-    ),
-    Case(
-        "nine letters",
-        Draft {
-            letters: b"ABCDEFGHI",
-            ..BASE
-        },
-        Some(PartFault::Letters(8)),
-    ),
-    Case(
-        "no lead",
-        Draft { leads: &[], ..BASE },
-        Some(PartFault::Leads(0)),
-    ),
-    Case(
-        "no plain lead",
-        Draft {
-            leads: &[LeadRow(0, b'b', 2)],
-            ..BASE
-        },
-        Some(PartFault::Leads(0)),
-    ),
-    Case(
-        "no change",
-        Draft {
-            leads: &[LeadRow(0, b'p', 0)],
-            ..BASE
-        },
-        Some(PartFault::Leads(0)),
-    ),
-    Case(
-        "129 changes",
-        Draft {
-            leads: &[LeadRow(0, b'p', 129)],
-            ..BASE
-        },
-        Some(PartFault::Leads(0)),
-    ),
-    Case(
-        "128 changes",
-        Draft {
-            leads: &[LeadRow(0, b'p', 128)],
-            ..BASE
-        },
-        None,
-    ),
-    Case(
-        "a mark again",
-        Draft {
-            leads: &[
-                LeadRow(0, b'p', 2),
-                LeadRow(0, b'b', 2),
-                LeadRow(0, b'b', 2),
-            ],
-            ..BASE
-        },
-        Some(PartFault::Leads(2)),
-    ),
-    Case(
-        "marks that fall",
-        Draft {
-            leads: &[
-                LeadRow(0, b'p', 2),
-                LeadRow(0, b'c', 2),
-                LeadRow(0, b'b', 2),
-            ],
-            ..BASE
-        },
-        Some(PartFault::Leads(2)),
-    ),
-    Case(
-        "a capital mark",
-        Draft {
-            leads: &[LeadRow(0, b'p', 2), LeadRow(0, b'B', 2)],
-            ..BASE
-        },
-        Some(PartFault::Leads(1)),
-    ),
-    Case(
-        "a method too many",
-        Draft {
-            leads: &[LeadRow(0, b'p', 2), LeadRow(1, b'p', 2)],
-            ..BASE
-        },
-        Some(PartFault::Leads(1)),
-    ),
-    Case(
-        "a method left out",
-        Draft {
-            letters: b"ABC",
-            leads: &[LeadRow(0, b'p', 2), LeadRow(2, b'p', 2)],
-            ..BASE
-        },
-        Some(PartFault::Leads(1)),
-    ),
-    Case(
-        "a method without leads",
-        Draft {
-            letters: b"AB",
-            leads: &[LeadRow(0, b'p', 2), LeadRow(0, b'b', 2)],
-            ..BASE
-        },
-        Some(PartFault::Leads(2)),
-    ),
-];
-
-const FEW: &[LeadRow] = &[LeadRow(0, b'p', 1)];
-
-const LENGTH_CASES: [Case; 11] = [
-    Case(
-        "least length 0",
-        Draft { min: 0, ..BASE },
-        Some(PartFault::Range(0, 24)),
-    ),
-    Case(
-        "lengths the wrong way round",
-        Draft {
-            min: 2,
-            max: 1,
-            ..BASE
-        },
-        Some(PartFault::Range(2, 1)),
-    ),
-    Case(
-        "a length of 12,001",
-        Draft {
-            max: 12_001,
-            ..BASE
-        },
-        Some(PartFault::Range(1, 12_001)),
-    ),
-    Case(
-        "no part",
-        Draft { parts: 0, ..BASE },
-        Some(PartFault::Parts(0)),
-    ),
-    Case(
-        "65 parts",
-        Draft { parts: 65, ..BASE },
-        Some(PartFault::Parts(65)),
-    ),
-    Case("64 parts", Draft { parts: 64, ..BASE }, None),
-    Case(
-        "-1 parts",
-        Draft { parts: -1, ..BASE },
-        Some(PartFault::Parts(-1)),
-    ),
-    Case(
-        "1,024 leads",
-        Draft {
-            stage: 8,
-            leads: FEW,
-            max: 1_024,
-            ..BASE
-        },
-        None,
-    ),
-    Case(
-        "1,025 leads",
-        Draft {
-            stage: 8,
-            leads: FEW,
-            max: 1_025,
-            ..BASE
-        },
-        Some(PartFault::Deep(1_025)),
-    ),
-    Case(
-        "12,000 changes, of which 720 are on six bells",
-        Draft {
-            stage: 6,
-            leads: FEW,
-            max: 12_000,
-            ..BASE
-        },
-        None,
-    ),
-    Case(
-        "12,000 changes, of which 5,040 are on seven bells",
-        Draft {
-            stage: 7,
-            leads: FEW,
-            max: 12_000,
-            ..BASE
-        },
-        Some(PartFault::Deep(5_040)),
-    ),
-];
-
-const BOBS: Count = Count {
-    mark: b'b',
-    min: 0,
-    max: 12_000,
-};
-
-const LEADS: MethodCount = MethodCount {
-    letter: b'A',
-    min: 0,
-    max: 12_000,
-};
-
-const COUNT_CASES: [Case; 9] = [
-    Case(
-        "sixteen counts",
-        Draft {
-            counts: &[BOBS; 16],
-            ..BASE
-        },
-        None,
-    ),
-    Case(
-        "seventeen counts",
-        Draft {
-            counts: &[BOBS; 17],
-            ..BASE
-        },
-        Some(PartFault::Count(CountAt::Mark(16))),
-    ),
-    Case(
-        "a count of no mark",
-        Draft {
-            counts: &[BOBS, Count { mark: b'z', ..BOBS }],
-            ..BASE
-        },
-        Some(PartFault::Count(CountAt::Mark(1))),
-    ),
-    Case(
-        "a count from -1",
-        Draft {
-            counts: &[Count { min: -1, ..BOBS }],
-            ..BASE
-        },
-        Some(PartFault::Count(CountAt::Mark(0))),
-    ),
-    Case(
-        "a count the wrong way round",
-        Draft {
-            counts: &[Count {
-                min: 2,
-                max: 1,
-                ..BOBS
-            }],
-            ..BASE
-        },
-        Some(PartFault::Count(CountAt::Mark(0))),
-    ),
-    Case(
-        "a count to 12,001",
-        Draft {
-            counts: &[Count {
-                max: 12_001,
-                ..BOBS
-            }],
-            ..BASE
-        },
-        Some(PartFault::Count(CountAt::Mark(0))),
-    ),
-    Case(
-        "seventeen method counts",
-        Draft {
-            method_counts: &[LEADS; 17],
-            ..BASE
-        },
-        Some(PartFault::Count(CountAt::Method(16))),
-    ),
-    Case(
-        "a method count of no letter",
-        Draft {
-            method_counts: &[
-                LEADS,
-                MethodCount {
-                    letter: b'B',
-                    ..LEADS
-                },
-            ],
-            ..BASE
-        },
-        Some(PartFault::Count(CountAt::Method(1))),
-    ),
-    Case(
-        "a method count the wrong way round",
-        Draft {
-            method_counts: &[MethodCount {
-                min: 2,
-                max: 1,
-                ..LEADS
-            }],
-            ..BASE
-        },
-        Some(PartFault::Count(CountAt::Method(0))),
-    ),
-];
-
-const PATTERN_CASES: [Case; 11] = [
-    Case(
-        "thirty-two patterns",
-        Draft {
-            cells: &[Any, Bell(4), Run],
-            patterns: 32,
-            ..BASE
-        },
-        None,
-    ),
-    Case(
-        "thirty-three patterns",
-        Draft {
-            cells: &[Any, Bell(4), Run],
-            patterns: 33,
-            ..BASE
-        },
-        Some(PartFault::Pattern(32)),
-    ),
-    Case(
-        "as many cells as bells",
-        Draft {
-            cells: &[Any, Any, Any, Any],
-            patterns: 1,
-            ..BASE
-        },
-        None,
-    ),
-    Case(
-        "and a run",
-        Draft {
-            cells: &[Any, Any, Any, Any, Run],
-            patterns: 1,
-            ..BASE
-        },
-        None,
-    ),
-    Case(
-        "a run alone",
-        Draft {
-            cells: &[Run],
-            patterns: 1,
-            ..BASE
-        },
-        None,
-    ),
-    Case(
-        "a bell above the stage",
-        Draft {
-            cells: &[Bell(5), Run],
-            patterns: 2,
-            ..BASE
-        },
-        Some(PartFault::Pattern(0)),
-    ),
-    Case(
-        "a bell twice",
-        Draft {
-            cells: &[Bell(2), Run, Bell(2)],
-            patterns: 1,
-            ..BASE
-        },
-        Some(PartFault::Pattern(0)),
-    ),
-    Case(
-        "two runs",
-        Draft {
-            cells: &[Run, Bell(2), Run],
-            patterns: 1,
-            ..BASE
-        },
-        Some(PartFault::Pattern(0)),
-    ),
-    Case(
-        "too few cells",
-        Draft {
-            cells: &[Any, Any, Any],
-            patterns: 1,
-            ..BASE
-        },
-        Some(PartFault::Pattern(0)),
-    ),
-    Case(
-        "too many cells",
-        Draft {
-            cells: &[Any, Any, Any, Any, Any],
-            patterns: 1,
-            ..BASE
-        },
-        Some(PartFault::Pattern(0)),
-    ),
-    Case(
-        "too many cells and a run",
-        Draft {
-            cells: &[Any, Any, Any, Any, Any, Run],
-            patterns: 1,
-            ..BASE
-        },
-        Some(PartFault::Pattern(0)),
-    ),
-];
-
-fn each_is_told(rt: &HostRuntime, cases: &[Case]) -> Result<(), Fail> {
-    for case in cases {
-        if made(rt, &case.1)?.err() != case.2 {
-            return Err(Fail::from(case.0));
-        }
+// Whether the parts have this fault, or none.
+fn tell(
+    rt: &HostRuntime,
+    name: &'static str,
+    draft: &Draft,
+    wrong: Option<PartFault>,
+) -> Result<(), Fail> {
+    if made(rt, draft)?.err() != wrong {
+        return Err(Fail::from(name));
     }
     Ok(())
 }
 
+const P: LeadRow = LeadRow(0, b'p', 2);
+
+const B: LeadRow = LeadRow(0, b'b', 2);
+
+const C: LeadRow = LeadRow(0, b'c', 2);
+
+const LEADS: [(&str, &[u8], &[LeadRow], Option<PartFault>); 15] = [
+    ("no letter", b"", GOOD, Some(PartFault::Letters(0))),
+    ("a small letter", b"a", GOOD, Some(PartFault::Letters(0))),
+    ("a letter again", b"AbA", GOOD, Some(PartFault::Letters(1))),
+    (
+        "nine letters",
+        b"ABCDEFGHI",
+        GOOD,
+        Some(PartFault::Letters(8)),
+    ),
+    ("no lead", b"A", &[], Some(PartFault::Leads(0))),
+    ("no plain lead", b"A", &[B], Some(PartFault::Leads(0))),
+    (
+        "no change",
+        b"A",
+        &[LeadRow(0, b'p', 0)],
+        Some(PartFault::Leads(0)),
+    ),
+    ("128 changes", b"A", &[LeadRow(0, b'p', 128)], None),
+    (
+        "129 changes",
+        b"A",
+        &[LeadRow(0, b'p', 129)],
+        Some(PartFault::Leads(0)),
+    ),
+    ("a mark again", b"A", &[P, B, B], Some(PartFault::Leads(2))),
+    (
+        "marks that fall",
+        b"A",
+        &[P, C, B],
+        Some(PartFault::Leads(2)),
+    ),
+    (
+        "a capital mark",
+        b"A",
+        &[P, LeadRow(0, b'B', 2)],
+        Some(PartFault::Leads(1)),
+    ),
+    (
+        "a method too many",
+        b"A",
+        &[P, LeadRow(1, b'p', 2)],
+        Some(PartFault::Leads(1)),
+    ),
+    (
+        "a method left out",
+        b"ABC",
+        &[P, LeadRow(2, b'p', 2)],
+        Some(PartFault::Leads(1)),
+    ),
+    (
+        "a method without leads",
+        b"AB",
+        &[P, B],
+        Some(PartFault::Leads(2)),
+    ),
+];
+
 #[test]
 fn faults_of_letters_and_leads(rt: HostRuntime) -> Result<(), Fail> {
-    each_is_told(&rt, &LEAD_CASES)?;
+    for (name, letters, leads, wrong) in LEADS {
+        tell(
+            &rt,
+            name,
+            &Draft {
+                letters,
+                leads,
+                ..BASE
+            },
+            wrong,
+        )?;
+    }
     let leads = leads_of(&rt, stage_of(6)?, GOOD)?;
     let query = query_of(&rt, &BASE)?;
     let made = Problem::new(stage_of(4)?, b"A".to_vec(rt.alloc())?, leads, query);
@@ -548,19 +204,222 @@ fn faults_of_letters_and_leads(rt: HostRuntime) -> Result<(), Fail> {
     Ok(())
 }
 
+// Of leads of one change: the stage, the least and the greatest length, and the parts.
+const LENGTHS: [(&str, u8, i64, i64, i64, Option<PartFault>); 11] = [
+    ("least length 0", 4, 0, 24, 1, Some(PartFault::Range(0, 24))),
+    (
+        "the wrong way round",
+        4,
+        2,
+        1,
+        1,
+        Some(PartFault::Range(2, 1)),
+    ),
+    (
+        "a length of 12,001",
+        4,
+        1,
+        12_001,
+        1,
+        Some(PartFault::Range(1, 12_001)),
+    ),
+    ("no part", 4, 1, 24, 0, Some(PartFault::Parts(0))),
+    ("64 parts", 4, 1, 24, 64, None),
+    ("65 parts", 4, 1, 24, 65, Some(PartFault::Parts(65))),
+    ("-1 parts", 4, 1, 24, -1, Some(PartFault::Parts(-1))),
+    ("1,024 leads", 8, 1, 1_024, 1, None),
+    ("1,025 leads", 8, 1, 1_025, 1, Some(PartFault::Deep(1_025))),
+    ("720 leads", 6, 1, 12_000, 1, None),
+    ("5,040 leads", 7, 1, 12_000, 1, Some(PartFault::Deep(5_040))),
+];
+
 #[test]
 fn faults_of_lengths(rt: HostRuntime) -> Result<(), Fail> {
-    each_is_told(&rt, &LENGTH_CASES)
+    for (name, stage, min, max, parts, wrong) in LENGTHS {
+        let leads = &[LeadRow(0, b'p', 1)];
+        let draft = Draft {
+            stage,
+            leads,
+            min,
+            max,
+            parts,
+            ..BASE
+        };
+        tell(&rt, name, &draft, wrong)?;
+    }
+    Ok(())
 }
+
+const BOBS: Count = Count {
+    mark: b'b',
+    min: 0,
+    max: 12_000,
+};
+
+const SINGLES: Count = Count { mark: b's', ..BOBS };
+
+const BELOW: Count = Count { min: -1, ..BOBS };
+
+const TURNED: Count = Count {
+    min: 2,
+    max: 1,
+    ..BOBS
+};
+
+const ABOVE: Count = Count {
+    max: 12_001,
+    ..BOBS
+};
+
+const COUNTS: [(&str, &[Count], Option<PartFault>); 6] = [
+    ("sixteen", &[BOBS; 16], None),
+    (
+        "seventeen",
+        &[BOBS; 17],
+        Some(PartFault::Count(CountAt::Mark(16))),
+    ),
+    (
+        "of no mark",
+        &[BOBS, SINGLES],
+        Some(PartFault::Count(CountAt::Mark(1))),
+    ),
+    (
+        "from -1",
+        &[BELOW],
+        Some(PartFault::Count(CountAt::Mark(0))),
+    ),
+    (
+        "the wrong way round",
+        &[TURNED],
+        Some(PartFault::Count(CountAt::Mark(0))),
+    ),
+    (
+        "to 12,001",
+        &[ABOVE],
+        Some(PartFault::Count(CountAt::Mark(0))),
+    ),
+];
+
+const OF_A: MethodCount = MethodCount {
+    letter: b'A',
+    min: 0,
+    max: 12_000,
+};
+
+const OF_B: MethodCount = MethodCount {
+    letter: b'B',
+    ..OF_A
+};
+
+const A_TURNED: MethodCount = MethodCount {
+    min: 2,
+    max: 1,
+    ..OF_A
+};
+
+const METHOD_COUNTS: [(&str, &[MethodCount], Option<PartFault>); 4] = [
+    ("sixteen", &[OF_A; 16], None),
+    (
+        "seventeen",
+        &[OF_A; 17],
+        Some(PartFault::Count(CountAt::Method(16))),
+    ),
+    (
+        "of no letter",
+        &[OF_A, OF_B],
+        Some(PartFault::Count(CountAt::Method(1))),
+    ),
+    (
+        "the wrong way round",
+        &[A_TURNED],
+        Some(PartFault::Count(CountAt::Method(0))),
+    ),
+];
 
 #[test]
 fn faults_of_counts(rt: HostRuntime) -> Result<(), Fail> {
-    each_is_told(&rt, &COUNT_CASES)
+    for (name, counts, wrong) in COUNTS {
+        tell(&rt, name, &Draft { counts, ..BASE }, wrong)?;
+    }
+    for (name, method_counts, wrong) in METHOD_COUNTS {
+        tell(
+            &rt,
+            name,
+            &Draft {
+                method_counts,
+                ..BASE
+            },
+            wrong,
+        )?;
+    }
+    Ok(())
 }
+
+// The cells, and how many patterns have them.
+const PATTERNS: [(&str, &[Cell], usize, Option<PartFault>); 11] = [
+    ("thirty-two", &[Any, Bell(4), Run], 32, None),
+    (
+        "thirty-three",
+        &[Any, Bell(4), Run],
+        33,
+        Some(PartFault::Pattern(32)),
+    ),
+    ("a cell a bell", &[Any, Any, Any, Any], 1, None),
+    ("and a run", &[Any, Any, Any, Any, Run], 1, None),
+    ("a run alone", &[Run], 1, None),
+    (
+        "a bell above the stage",
+        &[Bell(5), Run],
+        2,
+        Some(PartFault::Pattern(0)),
+    ),
+    (
+        "a bell twice",
+        &[Bell(2), Run, Bell(2)],
+        1,
+        Some(PartFault::Pattern(0)),
+    ),
+    (
+        "two runs",
+        &[Run, Bell(2), Run],
+        1,
+        Some(PartFault::Pattern(0)),
+    ),
+    (
+        "too few cells",
+        &[Any, Any, Any],
+        1,
+        Some(PartFault::Pattern(0)),
+    ),
+    (
+        "too many cells",
+        &[Any, Any, Any, Any, Any],
+        1,
+        Some(PartFault::Pattern(0)),
+    ),
+    (
+        "too many and a run",
+        &[Any, Any, Any, Any, Any, Run],
+        1,
+        Some(PartFault::Pattern(0)),
+    ),
+];
 
 #[test]
 fn faults_of_patterns(rt: HostRuntime) -> Result<(), Fail> {
-    each_is_told(&rt, &PATTERN_CASES)
+    for (name, cells, patterns, wrong) in PATTERNS {
+        tell(
+            &rt,
+            name,
+            &Draft {
+                cells,
+                patterns,
+                ..BASE
+            },
+            wrong,
+        )?;
+    }
+    Ok(())
 }
 
 // One more lead than there may be.
@@ -592,7 +451,7 @@ const MANY: &[LeadRow] = &[
     LeadRow(0, b'y', 1),
 ];
 
-// Everything is wrong; each draft after it mends one thing more.
+// Everything is wrong.
 const ALL_WRONG: Draft = Draft {
     stage: 8,
     letters: b"a",
@@ -600,99 +459,51 @@ const ALL_WRONG: Draft = Draft {
     min: 0,
     max: 2_050,
     parts: 0,
-    counts: &[Count { mark: b'z', ..BOBS }],
-    method_counts: &[MethodCount {
-        letter: b'Z',
-        ..LEADS
-    }],
+    counts: &[SINGLES],
+    method_counts: &[OF_B],
     cells: &[Bell(9)],
     patterns: 1,
     com: Some(Com { min: 2, max: 1 }),
 };
 
-const LETTERS_MENDED: Draft = Draft {
-    letters: b"A",
-    ..ALL_WRONG
-};
-
-const MANY_STEPS: Draft = Draft {
-    leads: MANY,
-    ..LETTERS_MENDED
-};
-
-const STEPS_MENDED: Draft = Draft {
-    leads: GOOD,
-    ..MANY_STEPS
-};
-
-const LEAST_MENDED: Draft = Draft {
-    min: 1,
-    ..STEPS_MENDED
-};
-
-const LENGTHS_MENDED: Draft = Draft {
-    max: 2_048,
-    ..LEAST_MENDED
-};
-
-const PARTS_MENDED: Draft = Draft {
-    parts: 1,
-    ..LENGTHS_MENDED
-};
-
-const COUNTS_MENDED: Draft = Draft {
-    counts: &[],
-    ..PARTS_MENDED
-};
-
-const METHODS_MENDED: Draft = Draft {
-    method_counts: &[],
-    ..COUNTS_MENDED
-};
-
-const PATTERNS_MENDED: Draft = Draft {
-    patterns: 0,
-    ..METHODS_MENDED
-};
-
-const ALL_MENDED: Draft = Draft {
-    com: None,
-    ..PATTERNS_MENDED
-};
-
-const ORDER_CASES: [Case; 11] = [
-    Case("all wrong", ALL_WRONG, Some(PartFault::Letters(0))),
-    Case("leads next", LETTERS_MENDED, Some(PartFault::Leads(0))),
-    Case("steps next", MANY_STEPS, Some(PartFault::Steps(25))),
-    Case(
-        "lengths next",
-        STEPS_MENDED,
-        Some(PartFault::Range(0, 2_050)),
-    ),
-    Case("depth next", LEAST_MENDED, Some(PartFault::Deep(1_025))),
-    Case("parts next", LENGTHS_MENDED, Some(PartFault::Parts(0))),
-    Case(
-        "counts next",
-        PARTS_MENDED,
-        Some(PartFault::Count(CountAt::Mark(0))),
-    ),
-    Case(
-        "method counts next",
-        COUNTS_MENDED,
-        Some(PartFault::Count(CountAt::Method(0))),
-    ),
-    Case("patterns next", METHODS_MENDED, Some(PartFault::Pattern(0))),
-    Case(
-        "changes of method last",
-        PATTERNS_MENDED,
-        Some(PartFault::Com),
-    ),
-    Case("nothing wrong", ALL_MENDED, None),
+const ORDER: [PartFault; 10] = [
+    PartFault::Letters(0),
+    PartFault::Leads(0),
+    PartFault::Steps(25),
+    PartFault::Range(0, 2_050),
+    PartFault::Deep(1_025),
+    PartFault::Parts(0),
+    PartFault::Count(CountAt::Mark(0)),
+    PartFault::Count(CountAt::Method(0)),
+    PartFault::Pattern(0),
+    PartFault::Com,
 ];
+
+// The draft with one thing more mended.
+fn mended(mut draft: Draft, step: usize) -> Draft {
+    match step {
+        0 => draft.letters = b"A",
+        1 => draft.leads = MANY,
+        2 => draft.leads = GOOD,
+        3 => draft.min = 1,
+        4 => draft.max = 2_048,
+        5 => draft.parts = 1,
+        6 => draft.counts = &[],
+        7 => draft.method_counts = &[],
+        8 => draft.patterns = 0,
+        _ => draft.com = None,
+    }
+    draft
+}
 
 #[test]
 fn the_first_fault_comes_first(rt: HostRuntime) -> Result<(), Fail> {
-    each_is_told(&rt, &ORDER_CASES)
+    let mut draft = ALL_WRONG;
+    for (step, wrong) in ORDER.iter().enumerate() {
+        assert_eq!(rt; made(&rt, &draft)?.err(), Some(*wrong), "check {step}");
+        draft = mended(draft, step);
+    }
+    tell(&rt, "all is mended", &draft, None)
 }
 
 const TWO_PARTS: Draft = Draft {
