@@ -3,7 +3,7 @@ use Rattle.std.proofs.Common.{◌≡◌, ℕ, zero, suc, ◌+◌, ◌-◌, ◌%�
 use Rattle.std.specs.Prelude.{nat_eq}
 use Rattle.std.proofs.lemmas.Bool.Decides.{nat_tests}
 use Rattle.cr_row.specs.Rows.{IsNext, IsChange}
-use Rattle.cr_model.specs.Notation.{group, first_implied, last_implied, change_of, IsNamed}
+use Rattle.cr_model.specs.Notation.{group, crossing, first_implied, last_implied, change_of, IsNamed}
 
 -- each place is next to the one before it, and the stage's next number to the last
 abbrev pub Chain : ℕ → ℕ → List ℕ → Type 0
@@ -70,3 +70,6 @@ group_is_change n named h low = change_from_chain n (first_implied named ++ (nam
 -- a cross on an even stage is one too
 pub cross_chain : (n : ℕ) → n % 2 ≡ 0 → Chain n 0 []
 cross_chain n even = (omega arith, omega arith)
+
+pub cross_is_change : (n : ℕ) → n % 2 ≡ 0 → IsChange (change_of n crossing)
+cross_is_change n even = change_from_chain n [] (cross_chain n even)

@@ -5,6 +5,8 @@ pub mod First
 pub mod Decided
 pub mod Chains
 pub mod Mirrors
+pub mod Keeping
+pub mod KeptReading
 pub mod Signs
 pub mod Refined
 pub mod Written
