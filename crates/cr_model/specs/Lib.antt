@@ -5,6 +5,7 @@ pub mod Queries
 pub mod Touches
 pub mod Nodes
 pub mod Books
+pub mod Checks
 pub mod Sound
 pub mod Faults
 pub mod Examples
