@@ -1,9 +1,10 @@
 -- What is kept of a list tells what the whole list tells.
-use Rattle.std.proofs.Common.{◌≡◌, ℕ, zero, suc, ◌+◌, ◌<◌, ◌≤◌, ◌⊎◌, true, false, cond, List, [], ◌∷◌, ◌++◌, length, take, drop, reverse, min, Result, Ok, Err, refl, sym, ap, ◌∙◌, inl, inr, arith}
+use Rattle.std.proofs.Common.{◌≡◌, ℕ, zero, suc, ◌+◌, ◌-◌, ◌<◌, ◌≤◌, ◌⊎◌, true, false, cond, List, [], ◌∷◌, ◌++◌, length, take, drop, reverse, min, Result, Ok, Err, get_or, refl, sym, ap, ◌∙◌, inl, inr, arith, append_assoc, length-drop}
 use Rattle.std.specs.Prelude.{nat_lt}
 use Rattle.std.proofs.lemmas.Bool.{cases_lt}
 use Rattle.std.proofs.lemmas.Bool.Decides.{nat_tests}
-use Rattle.std.proofs.lemmas.List.{take_all, take-append-le, length-take, length-append}
+use Rattle.std.proofs.lemmas.List.{take_all, take_more, take-append-le, length-take, length-reverse, append-nil}
+use Rattle.cr_notation.proofs.Mirrors.{mirrored_more}
 use Rattle.cr_row.specs.Rows.{Places}
 use Rattle.cr_model.specs.declared.notation.NotationFault.TheVariants as fault
 use Rattle.cr_model.specs.Notation.{mirrored}
@@ -80,11 +81,41 @@ kept_limited k xs ys same = elim (same_or_many 129 xs ys same) [
   | inr many ↦ long_test k xs many.0 ∙ sym (long_test k ys many.1)
 ]
 
+-- ---- a block forth and back
+
+pub none_forth : (front block : List Places) → kept front ≡ kept (front ++ take 0 block)
+none_forth front block = sym (ap kept (append-nil front))
+
+pub one_forth : (front block so_far more : List Places) (i : ℕ) (x : Places) → i < length block → x ≡ get_or block i x
+    → kept so_far ≡ kept (front ++ take i block) → kept more ≡ kept (so_far ++ x ∷ []) → kept more ≡ kept (front ++ take (i + 1) block)
+one_forth front block so_far more i x low read is adds =
+    let next : take (i + 1) block ≡ take i block ++ x ∷ [] = take_more block i x low ∙ ap (λ y. take i block ++ y ∷ []) (sym read) in
+    adds ∙ kept_front so_far (front ++ take i block) (x ∷ []) is
+    ∙ ap kept (append_assoc front (take i block) (x ∷ []) ∙ ap (λ ys. front ++ ys) (sym next))
+
+pub all_forth : (front block so_far : List Places) (i : ℕ) → length block ≤ i → kept so_far ≡ kept (front ++ take i block) → kept so_far ≡ kept (front ++ block)
+all_forth front block so_far i all is = is ∙ ap (λ ys. kept (front ++ ys)) (take_all i block all)
+
+pub none_back : (front block : List Places) → kept (front ++ block) ≡ kept ((front ++ block) ++ take 0 (drop 1 (reverse block)))
+none_back front block = none_forth (front ++ block) (drop 1 (reverse block))
+
+pub one_back : (front block so_far more : List Places) (back : ℕ) (x : Places) → 1 ≤ back → back < length block → x ≡ get_or block (length block - 1 - back) x
+    → kept so_far ≡ kept ((front ++ block) ++ take (back - 1) (drop 1 (reverse block))) → kept more ≡ kept (so_far ++ x ∷ [])
+    → kept more ≡ kept ((front ++ block) ++ take (back + 1 - 1) (drop 1 (reverse block)))
+one_back front block so_far more back x from low read is adds =
+    let all : List Places = (front ++ block) ++ take (back - 1) (drop 1 (reverse block)) in
+    adds ∙ kept_front so_far all (x ∷ []) is ∙ ap kept (mirrored_more (front ++ block) all block back x from low read refl)
+
+pub all_back : (front block so_far : List Places) (back : ℕ) → length block ≤ back → kept so_far ≡ kept ((front ++ block) ++ take (back - 1) (drop 1 (reverse block)))
+    → kept so_far ≡ kept (front ++ mirrored block)
+all_back front block so_far back all is =
+    let few : length (drop 1 (reverse block)) ≤ back - 1 = omega (arith, length-drop 1 (reverse block), length-reverse block) in
+    is ∙ ap (λ ys. kept ((front ++ block) ++ ys)) (take_all (back - 1) (drop 1 (reverse block)) few) ∙ ap kept (append_assoc front block (drop 1 (reverse block)))
+
 -- ---- as the reader takes it
 
-pub both_mirrored : (done block whole : List Places) → kept block ≡ kept whole → kept (kept (done ++ mirrored block)) ≡ kept (done ++ mirrored whole)
-both_mirrored done block whole same =
-    kept_again (done ++ mirrored block) ∙ kept_behind done (mirrored block) (mirrored whole) (kept_mirrored block whole same)
+pub both_mirrored : (done block whole : List Places) → kept block ≡ kept whole → kept (done ++ mirrored block) ≡ kept (done ++ mirrored whole)
+both_mirrored done block whole same = kept_behind done (mirrored block) (mirrored whole) (kept_mirrored block whole same)
 
 pub many_limited : (k : ℕ) (changes whole : List Places) → changes ≡ kept whole → 128 < length changes → limited k (Ok whole) ≡ Err (fault.Long k)
 many_limited k changes whole is many =

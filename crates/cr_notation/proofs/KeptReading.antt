@@ -21,12 +21,11 @@ pub closed_kept : (n : ℕ) (s : State) → kept (closed n (kept_of s)) ≡ kept
 unfolding closed
 closed_kept n s = closed_by_kept n s.last s.named s.block
 
-
 alike_cond : (b : Bool) (f : NotationFault) (r q : Result State NotationFault) → kept_read r ≡ kept_read q → kept_read (cond b (Err f) r) ≡ kept_read (cond b (Err f) q)
 alike_cond true f r q same = refl
 alike_cond false f r q same = same
 
-alike_ok : (seen : Bool) (done rest block more : List Places) (named : List ℕ) (l : Last) → kept done ≡ kept rest → kept block ≡ kept more
+pub alike_ok : (seen : Bool) (done rest block more : List Places) (named : List ℕ) (l : Last) → kept done ≡ kept rest → kept block ≡ kept more
     → kept_read (Ok (record { comma_seen = seen; done = done; block = block; named = named; last = l })) ≡ kept_read (Ok (record { comma_seen = seen; done = rest; block = more; named = named; last = l }))
 alike_ok seen done rest block more named l one two =
     ap₂ (λ ds bs. Ok (record { comma_seen = seen; done = ds; block = bs; named = named; last = l })) one two

@@ -7,6 +7,7 @@ pub mod Chains
 pub mod Mirrors
 pub mod Keeping
 pub mod KeptReading
+pub mod Taken
 pub mod Signs
 pub mod Refined
 pub mod Written

@@ -1,5 +1,6 @@
 -- What the reader's fields are, as the state of reading.
-use Rattle.std.specs.Prelude.{◌≡◌, ℕ, ◌≤◌, List, [], get_or, Result, Ok, Err}
+use Rattle.std.specs.Prelude.{◌≡◌, ℕ, ◌≤◌, List, [], ◌∷◌, ◌++◌, get_or, Result, Ok, Err}
+use Rattle.cr_row.specs.Rows.{Places}
 use Rattle.cr_model.specs.declared.notation.NotationFault.{NotationFault}
 use Rattle.cr_model.specs.declared.notation.NotationFault.TheVariants.{NoMemory}
 use Rattle.cr_model.specs.Notation.{IsNamed}
@@ -25,6 +26,16 @@ pub record IsShut (n : ℕ) (before after : State) : Type 0 where
   pub done : after.done ≡ before.done
   pub comma_seen : after.comma_seen ≡ before.comma_seen
   pub last : after.last ≡ before.last
+
+-- a change is added to the block, and no place is named any more
+pub record IsAdded (change : Places) (before after : Reader) : Type 0 where
+  pub block : kept after.block ≡ kept (before.block ++ change ∷ [])
+  pub named : after.named.items ≡ []
+  pub done : after.done ≡ before.done
+  pub comma_seen : after.comma_seen ≡ before.comma_seen
+  pub last : after.last ≡ before.last
+  pub stage : after.stage ≡ before.stage
+  pub cross : after.cross ≡ before.cross
 
 -- the places of an open group follow the rules, from 1 on
 abbrev pub IsReadyBy : ℕ → Last → List ℕ → Type 0

@@ -40,7 +40,7 @@ impl Kept {
 
     /// Adds a change, unless there are too many already.
     pub fn add(&mut self, change: Change) -> Result<(), AllocError>
-        ensures { OnOk result (self.new ≡ kept (self.old ++ change ∷ [])) }
+        ensures { OnOk result (kept self.new ≡ kept (self.old ++ change ∷ [])) }
     {
         if self.changes.len() <= MOST {
             self.changes.push(change)?;
@@ -48,17 +48,34 @@ impl Kept {
         Ok(())
     }
 
-    /// Adds the changes of a block to the last one and back to the first.
-    pub fn add_mirrored(&mut self, block: &Kept) -> Result<(), AllocError>
-        ensures { OnOk result (self.new ≡ kept (self.old ++ mirrored block.now)) }
+    /// Adds changes in their order.
+    #[tactic(auto, using(crate::proofs::Keeping::none_forth, crate::proofs::Keeping::all_forth))]
+    pub fn add_all(&mut self, block: &[Change]) -> Result<(), AllocError>
+        ensures { OnOk result (kept self.new ≡ kept (self.old ++ block.now)) }
     {
-        for change in &block.changes {
+        for change in block {
             self.add(*change)?;
         }
-        for back in 1..block.changes.len() {
-            self.add(block.changes[block.changes.len() - 1 - back])?;
+        Ok(())
+    }
+
+    /// Adds changes to the last one and back to the first.
+    #[tactic(auto, using(crate::proofs::Keeping::none_back))]
+    pub fn add_mirrored(&mut self, block: &[Change]) -> Result<(), AllocError>
+        ensures { OnOk result (kept self.new ≡ kept (self.old ++ mirrored block.now)) }
+    {
+        self.add_all(block)?;
+        for back in 1..block.len() {
+            self.add(block[block.len() - 1 - back])?;
         }
         Ok(())
+    }
+
+    /// The changes, as far as they are kept.
+    pub fn changes(&self) -> &[Change]
+        ensures { result.now ≡ self.now }
+    {
+        self.changes.as_slice()
     }
 
     pub fn clear(&mut self)

@@ -10,7 +10,7 @@ ghost use Rattle.cr_model.specs.NotationFaults.{FirstFault};
 ghost use Rattle.cr_notation.specs.declared.reader.Last.TheVariants as last;
 ghost use Rattle.cr_notation.specs.Reading.{fresh, first_named, more_named, place_step, cross_on, cross_step};
 ghost use Rattle.cr_notation.specs.Reading.{dot_step, comma_step, whole, end_step, byte_step, limited, read_all, kept};
-ghost use Rattle.cr_notation.specs.Refining.{state_of, IsShut, IsReady, Steps, Gives};
+ghost use Rattle.cr_notation.specs.Refining.{state_of, IsAdded, IsShut, IsReady, Steps, Gives};
 
 use crate::kept::{Kept, MOST};
 use crate::laws::{
@@ -87,7 +87,7 @@ impl Reader {
         }
     }
 
-    #[tactic(auto, unfolding(crate::specs::Reading::cross_step))]
+    #[tactic(auto, unfolding(crate::specs::Reading::cross_step), using(crate::proofs::Taken::cross_taken, crate::proofs::Taken::no_cross))]
     fn take_cross(&mut self, at: u64) -> Result<(), NotationFault>
         requires { IsReady self.old.stage self.old }
         ensures steps { Steps result (cross_step self.old.stage (state_of self.old) at) (state_of self.new) }
@@ -169,7 +169,7 @@ impl Reader {
         Ok(())
     }
 
-    #[tactic(auto, unfolding(crate::specs::Reading::comma_step, crate::specs::Reading::closed))]
+    #[tactic(auto, unfolding(crate::specs::Reading::comma_step))]
     fn take_comma(&mut self, at: u64) -> Result<(), NotationFault>
         requires { IsReady self.old.stage self.old }
         ensures steps { Steps result (comma_step self.old.stage (state_of self.old) at) (state_of self.new) }
@@ -185,7 +185,7 @@ impl Reader {
             return Err(NotationFault::EmptyBlock(at));
         }
         self.close()?;
-        self.done.add_mirrored(&self.block)?;
+        self.done.add_mirrored(self.block.changes())?;
         self.block.clear();
         self.comma_seen = true;
         self.last = Last::Nothing;
@@ -197,12 +197,25 @@ impl Reader {
     fn close(&mut self) -> Result<(), AllocError>
         requires { IsReady self.old.stage self.old }
         ensures closed { OnOk result (IsShut self.old.stage (state_of self.old) (state_of self.new)) }
-        ensures stays { (self.new.stage ≡ self.old.stage) × (self.new.cross ≡ self.old.cross) }
+        ensures stays { OnOk result ((self.new.stage ≡ self.old.stage) × (self.new.cross ≡ self.old.cross)) }
     {
-        if let Last::Group = self.last {
-            let change = group_change(self.stage, &mut self.named)?;
-            self.block.add(change)?;
+        match self.last {
+            Last::Group => self.add_group(),
+            Last::Nothing | Last::Dot(_) | Last::Cross => {
+                self.named.clear();
+                Ok(())
+            }
         }
+    }
+
+    // Adds the change of the open group to the block.
+    fn add_group(&mut self) -> Result<(), AllocError>
+        requires rules { IsNamed self.old.stage self.old.named.items }
+        requires from { 1 ≤ get_or self.old.named.items 0 0 }
+        ensures { OnOk result (IsAdded (change_of self.old.stage (group self.old.named.items)) self.old self.new) }
+    {
+        let change = group_change(self.stage, &mut self.named)?;
+        self.block.add(change)?;
         self.named.clear();
         Ok(())
     }
@@ -215,7 +228,7 @@ impl Reader {
     {
         self.close()?;
         if self.comma_seen {
-            self.done.add_mirrored(&self.block)?;
+            self.done.add_mirrored(self.block.changes())?;
             Ok(self.done.into_changes())
         } else {
             Ok(self.block.into_changes())
@@ -297,6 +310,7 @@ fn add_first(named: &mut Vec<u8>) -> Result<(), AllocError>
 }
 
 // The last of the named places.
+#[tactic(auto, using(crate::proofs::Named::last_at))]
 fn last_of(named: &[u8]) -> u8
     requires { 1 ≤ length named.now }
     ensures { result ≡ last_named named.now }

@@ -5,6 +5,6 @@ use Rattle.cr_notation.proofs.reader.read_bytes.Given as goal
 
 abbrev pub invariant-loop-at : goal.invariant-loop-at
 invariant-loop-at l = record {
-  ready : IsReady l.stage l.reader;
-  same : limited (length l.bytes) (read_from l.stage (state_of l.reader) l.at (drop l.at l.bytes)) ≡ read_all l.stage l.bytes;
+  ready : IsReady l.fn.stage l.reader;
+  same : limited (length l.bytes) (read_from l.fn.stage (state_of l.reader) l.at (drop l.at l.bytes)) ≡ read_all l.fn.stage l.bytes;
 }
