@@ -20,7 +20,7 @@ use Rattle.cr_model.specs.Notation.{Spells}
 use Rattle.cr_model.specs.Sound.{plain, step_at, changes_at, LettersAreRight, LeadIsRight, LeadsAreRight, StepIsRight, IsNextStep}
 use Rattle.cr_model.specs.Files.{FileParts}
 use Rattle.cr_model.specs.ProblemFiles.{Tunes, letters_of, method_texts, call_texts, mark_at, is_for, tune_at, over_at, called_tune, call_with, lead_from, byte_of, called_lead, leads_of_method, leads_of, LettersPass, CallsSpell, CallsPass, IsFileFault}
-use Rattle.cr_read.specs.Reading.{IsTuned, Refused, CallsAreRight, IsCallFault, IsLater}
+use Rattle.cr_read.specs.Reading.{IsTuned, Refused, IsLater}
 use Rattle.cr_read.proofs.CallFacts.{called_length}
 use Rattle.cr_read.proofs.Staged.{IsOf, spelled_staged}
 use Rattle.cr_read.proofs.StepOrder.{Chained, GoOn, last_step, chained_append, chained_at, each_of, IsMarked, marked_each, marks_in_order, methods_in_order, methods_led}
@@ -192,16 +192,9 @@ few_methods file n pass = elim (cases_lt 8 (length file.methods)) [
   | inr few ↦ omega arith
 ]
 
--- what the checks of the calls say in all
-pub calls_pass : (file : FileParts) (n : ℕ) (tunes : Tunes) → CallsSpell file n tunes → CallsAreRight file tunes → CallsPass file n tunes
-calls_pass file n tunes spell right = record { before = record { before = record { before = record { before = spell; overs = right.overs }; marks = right.marks }; fits = right.lengths }; apart = right.apart }
-
-pub call_fault : (file : FileParts) (n : ℕ) (tunes : Tunes) (why : ProblemFault) → CallsSpell file n tunes → IsCallFault file tunes why → Refused file why
-call_fault file n tunes (fault.Over call) spell is = (n, tunes, spell, is)
-call_fault file n tunes (fault.Mark call) spell is = (n, tunes, record { before = spell; overs = is.0 }, is.1)
-call_fault file n tunes (fault.CallLength call method) spell is = (n, tunes, record { before = record { before = spell; overs = is.0 }; marks = is.1 }, is.2, is.3)
-call_fault file n tunes (fault.Clash first second) spell is = (n, tunes, record { before = record { before = record { before = spell; overs = is.0 }; marks = is.1 }; fits = is.2 }, is.3, is.4)
-call_fault file n tunes _ spell is = absurd is
+pub refused_from : (file : FileParts) (why : ProblemFault) → IsFileFault file why → Refused file why
+refused_from file fault.NoMemory is = tt
+refused_from file _ is = is
 
 leads_not : (p : ProblemParts) (i : ℕ) → LettersAreRight p.letters → LeadsAreRight p.stage (length p.letters) p.leads → LeadsWrongAt p.stage (length p.letters) p.leads i → ⊥
 leads_not p i letters leads (inl wrong) = wrong.wrong (leads.each i wrong.within)
@@ -213,7 +206,3 @@ later_fault p (part.Letters i) letters leads (inl none) = let h : 0 < length p.l
 later_fault p (part.Letters i) letters leads (inr wrong) = absurd (wrong.wrong (letters.each i wrong.within))
 later_fault p (part.Leads i) letters leads is = leads_not p i letters leads is.1
 later_fault p _ letters leads is = tt
-
-pub refused_from : (file : FileParts) (why : ProblemFault) → IsFileFault file why → Refused file why
-refused_from file fault.NoMemory is = tt
-refused_from file _ is = is

@@ -1,4 +1,4 @@
-pub mod AllKeys
+pub mod KeyTables
 pub mod Arrays
 pub mod CallFacts
 pub mod Cells

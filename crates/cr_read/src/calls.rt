@@ -3,7 +3,8 @@
 ghost use Rattle.std.specs.Prelude.{◌≡◌, ◌≢◌, ℕ, ◌<◌, ◌≤◌, ◌↔◌, ◌+◌, ◌-◌, true, length, get_or, IsTrue, IfSome, MatchOption, MatchResult, unwrap_or, option_map, string_bytes};
 ghost use Rattle.cr_model.specs.Faults.{IsFirstWrong};
 ghost use Rattle.cr_model.specs.ProblemFiles.{letters_of, call_at, mark_at, is_named, is_for, tune_at, over_at, called_tune, OverIsRight, MarkIsRight, Fits, FitsAll, AreApart};
-ghost use Rattle.cr_read.specs.Reading.{IsTuned, CallsAreRight, IsCallFault};
+ghost use Rattle.cr_model.specs.ProblemFiles.{CallsSpell, CallsPass, IsFileFault};
+ghost use Rattle.cr_read.specs.Reading.{IsTuned};
 
 use crate::file_parts::{CallText, File};
 use crate::keys::stands_in;
@@ -242,7 +243,8 @@ fn clash(file: &File, letters: &[u8]) -> Option<(u64, u64)>
 pub fn check_calls(file: &File, letters: &[u8], tunes: &Tunes) -> Result<(), ProblemFault>
     requires is { letters.now ≡ letters_of file.now }
     requires tuned { IsTuned file.now tunes.now }
-    ensures { MatchResult result (λ _. CallsAreRight file.now tunes.now) (IsCallFault file.now tunes.now) }
+    ensures { (n : ℕ) → CallsSpell file.now n tunes.now →
+        MatchResult result (λ _. CallsPass file.now n tunes.now) (IsFileFault file.now) }
 {
     if let Some(call) = wrong_over(file) {
         return Err(ProblemFault::Over(call));
