@@ -4,10 +4,15 @@ pub mod Callings
 pub mod Queries
 pub mod Touches
 pub mod Nodes
+pub mod Decided
+pub mod Turning
 pub mod Books
 pub mod Checks
-pub mod Sound
+pub mod Limits
+pub mod Right
 pub mod Faults
+pub mod Sound
+pub mod GivenParts
 pub mod Examples
 pub mod Notation
 pub mod NotationFaults
