@@ -26,6 +26,18 @@ IsLater (part.Letters i) = ⊥
 IsLater (part.Leads i) = ⊥
 IsLater _ = Unit {0}
 
+-- a fault of parts as one of the file. The letters and the leads have none here
+abbrev pub file_fault : PartFault → ProblemFault
+file_fault (part.Letters i) = fault.NoMemory
+file_fault (part.Leads i) = fault.NoMemory
+file_fault (part.Steps number) = fault.Steps number
+file_fault (part.Range low high) = fault.Range low high
+file_fault (part.Deep depth) = fault.Deep depth
+file_fault (part.Parts parts) = fault.Parts parts
+file_fault (part.Count at) = fault.Count at
+file_fault (part.Pattern i) = fault.Pattern i
+file_fault part.Com = fault.Com
+
 -- the bytes are no table, or memory wants
 abbrev pub NotRead : List ℕ → ProblemFault → Type 0
 NotRead bytes fault.NotToml = (table : Members) → Reads bytes table → ⊥
