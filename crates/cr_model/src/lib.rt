@@ -11,6 +11,7 @@ pub mod lead;
 pub mod notation;
 pub mod problem;
 pub mod query;
+mod reason;
 
 pub use calling::Calling;
 pub use fault::{CountAt, PartFault};
@@ -19,6 +20,7 @@ pub use lead::{Lead, Step};
 pub use notation::NotationFault;
 pub use problem::Problem;
 pub use query::{Cell, Com, Count, MethodCount, Pattern, Query};
+pub use reason::Reason;
 
 #[cfg(test)]
 mod tests;
