@@ -26,14 +26,14 @@ differ_decided : (row other : List ℕ) → Decides (not (bytes_eq row other)) (
 differ_decided row other = Decides-not (bytes_eq row other) (bytes_eq-Decides row other)
 
 -- a row that differs from rows that differ, in front of them
-one_more_differs : (row : List ℕ) (rows : List (List ℕ)) → All (λ other. row ≢ other) rows × AllDiffer rows → AllDiffer (row ∷ rows)
+pub one_more_differs : (row : List ℕ) (rows : List (List ℕ)) → All (λ other. row ≢ other) rows × AllDiffer rows → AllDiffer (row ∷ rows)
 one_more_differs row rows h zero zero less inside = absurd (omega arith)
 one_more_differs row rows h zero (suc j) less inside = h.0 j [] (omega arith)
 one_more_differs row rows h (suc i) zero less inside = absurd (omega arith)
 one_more_differs row rows h (suc i) (suc j) less inside = h.1 i j (omega arith) (omega arith)
 
 -- and back
-one_less_differs : (row : List ℕ) (rows : List (List ℕ)) → AllDiffer (row ∷ rows) → All (λ other. row ≢ other) rows × AllDiffer rows
+pub one_less_differs : (row : List ℕ) (rows : List (List ℕ)) → AllDiffer (row ∷ rows) → All (λ other. row ≢ other) rows × AllDiffer rows
 one_less_differs row rows h = (
   All-from_get_or (λ other. row ≢ other) rows [] (λ k inside. h zero (suc k) (omega arith) (omega arith)),
   λ i j less inside. h (suc i) (suc j) (omega arith) (omega arith),

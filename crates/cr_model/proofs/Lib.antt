@@ -10,10 +10,13 @@ pub mod LeastRotation
 pub mod Lengths
 pub mod Listing
 pub mod Minimus
+pub mod NewRows
 pub mod OneFault
 pub mod Parts
 pub mod Prefixes
+pub mod Reaching
 pub mod Ringing
+pub mod RingingBack
 pub mod Rotations
 pub mod Splitting
 pub mod Turned
