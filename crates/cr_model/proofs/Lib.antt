@@ -6,6 +6,7 @@ pub mod Deciding
 pub mod Differing
 pub mod InOrder
 pub mod KeptTest
+pub mod LeastLeads
 pub mod LeastRotation
 pub mod Lengths
 pub mod Listing

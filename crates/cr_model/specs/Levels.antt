@@ -1,5 +1,5 @@
 -- How many leads lead from a row to rounds: the rows of each level, listed level by level.
-use Rattle.std.specs.Prelude.{◌≡◌, ℕ, zero, suc, ◌+◌, ◌<◌, ◌≤◌, Bool, true, false, cond, ◌&&◌, nat_eq, nat_le, List, [], ◌∷◌, ◌++◌, length, map, reverse, flat_map}
+use Rattle.std.specs.Prelude.{◌≡◌, ◌≢◌, ℕ, zero, suc, ◌+◌, ◌<◌, ◌≤◌, Bool, true, false, cond, ◌&&◌, nat_eq, nat_le, List, [], ◌∷◌, ◌++◌, length, map, reverse, flat_map}
 use Rattle.std.specs.Cmp.Lexicographic.{pointwise}
 use Rattle.std.specs.List.{list_any, range_with_len, position_or_len}
 use Rattle.cr_row.specs.Rows.{Places, rounds}
@@ -67,6 +67,11 @@ has_rows (row ∷ rows) = true
 -- the level has rows, and the rows up to it are no more than the most
 abbrev pub has_room : ProblemParts → ℕ → ℕ → Bool
 has_room p most leads = has_rows (level p leads) && nat_le (length (up_to_level p leads)) most
+
+-- the same of all levels up to one: none of them is empty, and together they have no more rows than the most
+pub record HasRoom (p : ProblemParts) (most leads : ℕ) : Type 0 where
+  pub rows : (number : ℕ) → number ≤ leads → level p number ≢ []
+  pub few : length (up_to_level p leads) ≤ most
 
 -- the greatest number up to n that passes, or 0
 abbrev pub greatest : (ℕ → Bool) → ℕ → ℕ
