@@ -1,5 +1,5 @@
 -- What the laws of rows and changes say of rows that are rung one after another.
-use Rattle.std.proofs.Common.{◌≡◌, ℕ, List, [], ◌∷◌, length, All, sym, ap, ◌∙◌, subst}
+use Rattle.std.proofs.Common.{◌≡◌, ℕ, List, [], ◌∷◌, length, All, sym, ap, ◌∙◌}
 use Rattle.std.proofs.lemmas.List.Elements.{All-nil, All-cons}
 use Rattle.cr_row.specs.Rows.{IsRow, IsInverse, Places, rounds, product, after}
 use Rattle.cr_model.specs.Callings.{rows_from, last_of}

@@ -13,7 +13,7 @@ use Rattle.cr_model.specs.Decided.{is_kept}
 use Rattle.cr_model.specs.Touches.{Wanted}
 use Rattle.cr_model.specs.Nodes.{nodes_above, times_found, Covers}
 use Rattle.cr_model.specs.Books.{IsBook, book_order}
-use Rattle.cr_model.specs.Sound.{IsSound}
+use Rattle.cr_model.specs.Sound.{IsSound, sound_leads}
 use Rattle.cr_model.proofs.Counting.{covers_by_count, reached_above}
 use Rattle.cr_model.proofs.KeptTest.{is_kept_decided}
 use Rattle.cr_model.proofs.Listing.{callings, calling_listed, in_order_those}
@@ -34,7 +34,7 @@ ties p calling other h = same_when_equal calling other (by (nat_cmp (length_of p
 
 -- each lead has some changes
 pub lead_some : (p : ProblemParts) → IsSound p → (step : ℕ) → step < length p.leads → 1 ≤ lead_length p step
-lead_some p sound step inside = (sound.leads.each step inside).some
+lead_some p sound step inside = ((sound_leads p sound).each step inside).changes.some
 
 -- so a calling has no more leads than changes
 pub leads_below_length : (p : ProblemParts) → IsSound p → (calling : List ℕ) → HasSteps p calling → length calling ≤ length_of p calling

@@ -4,12 +4,13 @@ pub mod Checking
 pub mod Counting
 pub mod Deciding
 pub mod Differing
+pub mod FirstFailure
 pub mod InOrder
 pub mod KeptTest
 pub mod LeastLeads
 pub mod LeastRotation
-pub mod Lengths
 pub mod Listing
+pub mod Measured
 pub mod Minimus
 pub mod NewRows
 pub mod OneFault

@@ -1,9 +1,7 @@
 -- Rows that are rung one after another, and from another row than rounds.
-use Rattle.std.proofs.Common.{◌≡◌, ℕ, ◌+◌, ◌-◌, Bool, true, false, cond, List, [], ◌∷◌, ◌++◌, length, get_or, map, nat_eq, refl, sym, ap, ◌∙◌, arith, ext_get_or, length-append}
-use Rattle.std.specs.List.{list_any}
+use Rattle.std.proofs.Common.{◌≡◌, ℕ, ◌+◌, List, [], ◌∷◌, ◌++◌, length, map, refl, sym, ap, ◌∙◌, length-append}
 use Rattle.std.proofs.lemmas.List.Concat.{flat_map-append}
-use Rattle.std.proofs.lemmas.List.FromFn.{length-map-range_with_len, get_or-map-range_with_len}
-use Rattle.cr_row.specs.Rows.{Places, rounds, product, changed, after}
+use Rattle.cr_row.specs.Rows.{Places, rounds, product, after}
 use Rattle.cr_model.specs.Problems.{ProblemParts}
 use Rattle.cr_model.specs.Callings.{changes_of, changes_of_all, rows_from, last_of, rows_of, length_of, head_of}
 

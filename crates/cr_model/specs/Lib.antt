@@ -11,8 +11,11 @@ pub mod Dead
 pub mod Sizes
 pub mod Books
 pub mod Checks
-pub mod Sound
+pub mod Limits
+pub mod Right
 pub mod Faults
+pub mod Sound
+pub mod GivenParts
 pub mod Examples
 pub mod Notation
 pub mod NotationFaults

@@ -1,16 +1,23 @@
 //! Problems and callings, and the definitions that the engine rests on.
 #![tactic(auto)]
 
-pub mod calling;
+mod calling;
 mod checks;
 mod copies;
-pub mod fault;
-pub mod file_fault;
+mod count_checks;
+mod fault;
+mod file_fault;
+mod given;
 pub mod laws;
-pub mod lead;
-pub mod notation;
-pub mod problem;
-pub mod query;
+mod lead;
+mod lead_checks;
+mod lengths;
+mod letter_checks;
+pub mod limits;
+mod notation;
+mod pattern_checks;
+mod problem;
+mod query;
 mod reason;
 
 pub use calling::Calling;

@@ -11,7 +11,7 @@ ghost use Rattle.cr_notation.specs.Refining.{state_of, shut, IsReady, Steps, Giv
 use crate::laws::{
     a_text_has_one_first_fault, a_text_spells_one_list, no_text_is_taken_and_refused,
 };
-use cr_model::notation::NotationFault;
+use cr_model::NotationFault;
 use cr_row::{Change, Stage, bell_of};
 use std::alloc::{AllocError, Global};
 

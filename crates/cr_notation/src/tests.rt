@@ -1,5 +1,5 @@
 use super::*;
-use cr_model::notation::NotationFault;
+use cr_model::NotationFault;
 use cr_row::{Change, Row, Stage, symbol};
 use std::alloc::{AllocError, Global};
 use std::test::*;
