@@ -20,5 +20,6 @@ pub mod Reaching
 pub mod Ringing
 pub mod RingingBack
 pub mod Rotations
+pub mod Sizing
 pub mod Splitting
 pub mod Turned

@@ -32,4 +32,4 @@ pub use touches::{
 };
 pub use dead::{nodes_die_above_a_limit, nodes_die_at_the_edges, nodes_die_below_a_limit, nodes_that_turn_back_die};
 pub use levels::{levels_list_rows, levels_of_doubles, no_fewer_leads_lead_home, the_depth_is_greatest};
-pub use sizes::sizes_count_nodes;
+pub use sizes::{a_child_is_longer, sizes_are_sums, sizes_count_nodes};
