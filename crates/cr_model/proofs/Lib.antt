@@ -1,4 +1,5 @@
 pub mod Bells
+pub mod Below
 pub mod BookExists
 pub mod Checking
 pub mod Counting
