@@ -3,6 +3,7 @@ pub mod Below
 pub mod BookExists
 pub mod Checking
 pub mod Counting
+pub mod Cuts
 pub mod Deciding
 pub mod Differing
 pub mod FirstFailure
