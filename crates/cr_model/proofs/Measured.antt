@@ -39,7 +39,7 @@ least_some x [] each = each 0 (omega arith)
 least_some x (y ∷ ys) each = let rest = least_some y ys (λ i h. each (suc i) (omega arith)) in let first = each 0 (omega arith) in omega arith
 
 -- a lead's changes, counted
-change_count_is : (leads : List LeadParts) (i : ℕ) → get_or (map (λ lead. length lead.changes) leads) i 0 ≡ length (changes_at leads i)
+pub change_count_is : (leads : List LeadParts) (i : ℕ) → get_or (map (λ lead. length lead.changes) leads) i 0 ≡ length (changes_at leads i)
 change_count_is [] i = refl
 change_count_is (lead ∷ leads) zero = refl
 change_count_is (lead ∷ leads) (suc i) = change_count_is leads i

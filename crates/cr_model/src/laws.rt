@@ -1,11 +1,14 @@
 //! Laws of the definitions, by topic. Each is the contract of a function that does nothing.
 
 mod books;
+mod dead;
 mod decided;
 mod examples;
+mod levels;
 mod nodes;
 mod parts;
 mod ringing;
+mod sizes;
 mod touches;
 
 pub use books::{book_is_unique, fresh_problem_covers_its_kept, the_book_exists};
@@ -27,3 +30,6 @@ pub use touches::{
     a_rotation_of_a_true_touch_is_one, at_most_one_rotation_is_kept,
     each_wanted_class_has_a_kept_one, rotations_are_an_equivalence,
 };
+pub use dead::{nodes_die_above_a_limit, nodes_die_at_the_edges, nodes_die_below_a_limit, nodes_that_turn_back_die};
+pub use levels::{levels_list_rows, levels_of_doubles, no_fewer_leads_lead_home, the_depth_is_greatest};
+pub use sizes::{a_child_is_longer, sizes_are_sums, sizes_count_nodes};
