@@ -3,7 +3,6 @@ pub mod Problems
 pub mod Callings
 pub mod Queries
 pub mod Touches
-pub mod Turning
 pub mod Nodes
 pub mod Decided
 pub mod Turning
