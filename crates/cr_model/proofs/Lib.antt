@@ -25,3 +25,4 @@ pub mod Rotations
 pub mod Sizing
 pub mod Splitting
 pub mod Turned
+pub mod TurnedBack
