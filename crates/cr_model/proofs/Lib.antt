@@ -4,6 +4,7 @@ pub mod BookExists
 pub mod Checking
 pub mod Counting
 pub mod Cuts
+pub mod DeadNodes
 pub mod Deciding
 pub mod Differing
 pub mod FirstFailure

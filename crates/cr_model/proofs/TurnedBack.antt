@@ -41,8 +41,7 @@ lesser_rotation word more turns =
     let k : ℕ = length turns.back in
     let whole : length word ≡ length front + k = ap length turns.is ∙ length-append front back in
     let cut : word ++ more ≡ take k word ++ (drop k word ++ more) = ap (λ l. l ++ more) (sym (take-append-drop k word)) ∙ append_assoc (take k word) (drop k word) more in
-    let less : IsLess (back ++ (more ++ front)) (take k word ++ (drop k word ++ more)) = less_onward back (take k word) (more ++ front) (drop k word ++ more) (sym (length-take-le k word (omega arith))) turns.less in
-    (
+    let less : IsLess (back ++ (more ++ front)) (take k word ++ (drop k word ++ more)) = less_onward back (take k word) (more ++ front) (drop k word ++ more) (sym (length-take-le k word (omega arith))) turns.less in (
       (back ++ more) ++ front,
       (front, back ++ more, ap (λ l. l ++ more) turns.is ∙ append_assoc front back more, refl),
       ap (λ c. slice_cmp nat_cmp c (word ++ more)) (append_assoc back more front) ∙ ap (slice_cmp nat_cmp (back ++ (more ++ front))) cut ∙ less,
