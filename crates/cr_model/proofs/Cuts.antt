@@ -149,8 +149,16 @@ module _ (p : ProblemParts) (node calling : List ℕ) (sound : IsSound p) (is : 
       let held : Contains (drop n rows) (rounds p.stage) = (listed_decided (drop n rows) (rounds p.stage)).0 h in
       let within : held.0 < length (drop n rows) = held.1 in
       let twice : length_of p (node ++ is.rest) * 2 ≤ length_of p (node ++ is.rest) * parts_of p = mul-le-mul_left (length_of p (node ++ is.rest)) several in
-      let some : 1 ≤ length after_it = omega (arith, length-drop n rows, rows_counted (rounds p.stage) (changes_of_all p node), rows_counted (head_of p node) (changes_of_all p is.more), whole_length,
-          mul_comm (length_of p (node ++ is.rest)) (parts_of p), lengths_on p node is.rest, more_length p node calling sound is) in
+      let some : 1 ≤ length after_it = omega (
+        arith,
+        length-drop n rows,
+        rows_counted (rounds p.stage) (changes_of_all p node),
+        rows_counted (head_of p node) (changes_of_all p is.more),
+        whole_length,
+        mul_comm (length_of p (node ++ is.rest)) (parts_of p),
+        lengths_on p node is.rest,
+        more_length p node calling sound is,
+      ) in
       let all : Contains rows (rounds p.stage) = subst (λ l. Contains l (rounds p.stage)) (take-append-drop n rows) (Contains-append_right (take n rows) (drop n rows) (rounds p.stage) held) in
       last_once (rounds p.stage) rows after_it all_rows some (subst (Contains rows) (sym last_row) all)
 
@@ -182,7 +190,7 @@ module _ (p : ProblemParts) (node calling : List ℕ) (sound : IsSound p) (is : 
   counted_most : (test : ℕ → Bool) → count_by test calling ≤ parts_of p * (count_by test node + leads_left p node)
   counted_most test =
       let part : count_by test (node ++ is.rest) ≤ count_by test node + leads_left p node =
-          omega (arith, sum_by-append (λ s. cond (test s) 1 0) node is.rest, count_by-le-length test is.rest, rest_few p node calling sound is) in
+      omega (arith, sum_by-append (λ s. cond (test s) 1 0) node is.rest, count_by-le-length test is.rest, rest_few p node calling sound is) in
       omega (arith, ap (count_by test) is.whole, words_counted test 0 (parts_of p) (node ++ is.rest), mul-le-mul_left (parts_of p) part)
 
   fitting_least : (pattern : PatternParts) → rows_fitting pattern.cells (rows_of p node) ≤ rows_fitting pattern.cells (rows_of p calling)
@@ -192,8 +200,14 @@ module _ (p : ProblemParts) (node calling : List ℕ) (sound : IsSound p) (is : 
   fitting_most : (pattern : PatternParts) → rows_fitting pattern.cells (rows_of p calling) ≤ rows_fitting pattern.cells (rows_of p node) + (cap p - length_of p node)
   fitting_most pattern =
       let short : length_of p calling ≤ cap p = is.kept.wanted.meets.short in
-      omega (arith, ap (count_by (fits pattern.cells)) (more_rows p node calling sound is), sum_by-append (λ row. cond (fits pattern.cells row) 1 0) (rows_of p node) (rows_from (head_of p node) (changes_of_all p is.more)),
-      count_by-le-length (fits pattern.cells) (rows_from (head_of p node) (changes_of_all p is.more)), rows_counted (head_of p node) (changes_of_all p is.more), more_length p node calling sound is)
+      omega (
+        arith,
+        ap (count_by (fits pattern.cells)) (more_rows p node calling sound is),
+        sum_by-append (λ row. cond (fits pattern.cells row) 1 0) (rows_of p node) (rows_from (head_of p node) (changes_of_all p is.more)),
+        count_by-le-length (fits pattern.cells) (rows_from (head_of p node) (changes_of_all p is.more)),
+        rows_counted (head_of p node) (changes_of_all p is.more),
+        more_length p node calling sound is,
+      )
 
   com_least : parts_of p * changes_of_method p node ≤ changes_of_method p calling
   com_least =

@@ -4,6 +4,7 @@ pub mod BookExists
 pub mod Checking
 pub mod Counting
 pub mod Cuts
+pub mod DeadNodes
 pub mod Deciding
 pub mod Differing
 pub mod FirstFailure
@@ -25,3 +26,4 @@ pub mod Rotations
 pub mod Sizing
 pub mod Splitting
 pub mod Turned
+pub mod TurnedBack

@@ -75,10 +75,13 @@ differ_joined [] more one two apart = two
 differ_joined (row ∷ rows) more one two apart =
     let both : All (λ other. row ≢ other) rows × AllDiffer rows = one_less_differs row rows one in
     let rest : AllDiffer (rows ++ more) = differ_joined rows more both.1 two (λ other held there. apart other (contains_more row other rows held) there) in
-    one_more_differs row (rows ++ more) (all_from_held (λ other. row ≢ other) (rows ++ more) (λ other held e. elim (Contains-append_cases rows more other held) [
-      | inl here ↦ let at : Contains rows row = subst (Contains rows) (sym e) here in both.0 at.0 row at.1 (sym at.2)
-      | inr there ↦ apart row (held_first row rows) (subst (Contains more) (sym e) there)
-    ]), rest)
+    one_more_differs row (rows ++ more) (
+      all_from_held (λ other. row ≢ other) (rows ++ more) (λ other held e. elim (Contains-append_cases rows more other held) [
+        | inl here ↦ let at : Contains rows row = subst (Contains rows) (sym e) here in both.0 at.0 row at.1 (sym at.2)
+        | inr there ↦ apart row (held_first row rows) (subst (Contains more) (sym e) there)
+      ]),
+      rest,
+    )
 
 -- new rows differ
 pub new_rows_differ : (seen rows : List (List ℕ)) → AllDiffer (new_rows seen rows)

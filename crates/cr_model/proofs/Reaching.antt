@@ -37,12 +37,16 @@ one_less_lead p leads row h = by h.calling h.steps h.number h.home
   where
     by : (calling : List ℕ) → HasSteps p calling → length calling ≡ suc leads → head_from row (changes_of_all p calling) ≡ rounds p.stage → (step : ℕ) × (step < length p.leads) × LeadsHome p leads (head_from row (changes_of p step))
     by [] steps number home = absurd (omega arith)
-    by (step ∷ calling) steps number home = (step, All-head (λ s. s < length p.leads) step calling steps, record {
-      calling = calling;
-      steps = All-tail (λ s. s < length p.leads) step calling steps;
-      number = omega arith;
-      home = sym (head_onward row (changes_of p step) (changes_of_all p calling)) ∙ home;
-    })
+    by (step ∷ calling) steps number home = (
+      step,
+      All-head (λ s. s < length p.leads) step calling steps,
+      record {
+        calling = calling;
+        steps = All-tail (λ s. s < length p.leads) step calling steps;
+        number = omega arith;
+        home = sym (head_onward row (changes_of p step) (changes_of_all p calling)) ∙ home;
+      },
+    )
 
 -- so far the rows of the last level and all rows up to it are listed
 record IsSpread (p : ProblemParts) (leads : ℕ) (so_far : Spread) : Type 0 where

@@ -46,9 +46,9 @@ both_hold P Q xs one two k d inside = (one k d inside, two k d inside)
 live_longer : (p : ProblemParts) (most : ℕ) (node : List ℕ) → IsSound p → All (IsLonger p node) (live_children p most node)
 live_longer p most node sound k d inside =
     let longer : All (λ next. length_of p node < length_of p next) (children p node) = All-map (λ next. length_of p node < length_of p next) (child node) (range_with_len 0 (length p.leads))
-        (All-from_get_or (λ step. length_of p node < length_of p (child node step)) (range_with_len 0 (length p.leads)) 0 (λ i within.
-        let at : get_or (range_with_len 0 (length p.leads)) i 0 ≡ 0 + i = get_or-range_with_len 0 (length p.leads) i 0 (omega (arith, length-range_with_len 0 (length p.leads))) in
-        child_longer p node (get_or (range_with_len 0 (length p.leads)) i 0) sound (omega (arith, length-range_with_len 0 (length p.leads))))) in (
+    (All-from_get_or (λ step. length_of p node < length_of p (child node step)) (range_with_len 0 (length p.leads)) 0 (λ i within.
+    let at : get_or (range_with_len 0 (length p.leads)) i 0 ≡ 0 + i = get_or-range_with_len 0 (length p.leads) i 0 (omega (arith, length-range_with_len 0 (length p.leads))) in
+    child_longer p node (get_or (range_with_len 0 (length p.leads)) i 0) sound (omega (arith, length-range_with_len 0 (length p.leads))))) in (
       All-filter (λ next. is_none (dead p most next)) (λ next. length_of p node < length_of p next) (children p node) longer k d inside,
       live_short p most (get_or (live_children p most node) k d) (filter_passes (λ next. is_none (dead p most next)) (children p node) k d inside),
     )

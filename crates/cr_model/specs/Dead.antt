@@ -1,5 +1,5 @@
 -- The reasons why no kept touch has a node above it, in the order in which they are looked at. A node here is not empty.
-use Rattle.std.specs.Prelude.{◌≡◌, ℕ, ◌+◌, ◌-◌, ◌*◌, ◌/◌, Bool, true, false, not, ◌&&◌, ◌||◌, ℤ, pos, int_lt, nat_abs, nat_lt, nat_eq, List, [], ◌∷◌, length, drop, take, find, Option, Some, None, is_none}
+use Rattle.std.specs.Prelude.{◌≡◌, ℕ, ◌+◌, ◌-◌, ◌*◌, ◌/◌, Bool, true, false, not, ◌&&◌, ◌||◌, ℤ, pos, int_lt, nat_abs, nat_lt, nat_eq, List, [], ◌∷◌, ◌++◌, All, length, drop, take, find, Option, Some, None, is_none}
 use Rattle.std.specs.Cmp.Lexicographic.{pointwise, slice_cmp}
 use Rattle.std.specs.List.{list_any, range_with_len}
 use Rattle.std.specs.Ordering.{nat_cmp, is_lt}
@@ -10,8 +10,14 @@ use Rattle.cr_model.specs.declared.reason.Reason.TheVariants as reason
 use Rattle.cr_model.specs.Problems.{QueryParts, ProblemParts}
 use Rattle.cr_model.specs.Callings.{shortest, rows_of, length_of, head_of}
 use Rattle.cr_model.specs.Queries.{cap, part_cap, leads_marked, leads_lettered, rows_fitting, changes_of_method}
+use Rattle.cr_model.specs.Touches.{Kept}
+use Rattle.cr_model.specs.Nodes.{IsAbove}
 use Rattle.cr_model.specs.Decided.{rows_differ}
 use Rattle.cr_model.specs.Levels.{at_least}
+
+-- no kept touch has the node above it
+abbrev pub HasNoneBelow : ProblemParts → List ℕ → Type 0
+HasNoneBelow p node = (calling : List ℕ) → Kept p calling → IsAbove p node calling → ⊥
 
 -- the number of parts
 abbrev pub parts_of : ProblemParts → ℕ
@@ -105,3 +111,11 @@ reasons = reason.Long ∷ reason.SelfFalse ∷ reason.Again ∷ reason.Home ∷ 
 -- the first that holds, or none
 unfoldable pub dead : ProblemParts → ℕ → List ℕ → Option Reason
 dead p most node = find (holds p most node) reasons
+
+-- a reason holds, and none before it in their order
+pub record IsFirstReason (p : ProblemParts) (most : ℕ) (node : List ℕ) (first : Reason) : Type 0 where
+  pub before : List Reason
+  pub others : List Reason
+  pub place : reasons ≡ before ++ first ∷ others
+  pub none : All (λ earlier. holds p most node earlier ≡ false) before
+  pub is : holds p most node first ≡ true
