@@ -1,8 +1,11 @@
 -- The keys of a problem file, and every key of a table that is missing, unknown or of the wrong kind, in order.
-use Rattle.std.specs.Prelude.{ℕ, ◌+◌, Bool, true, false, cond, not, ◌&&◌, ◌||◌, nat_eq, nat_le, List, [], ◌∷◌, ◌++◌, length, map, flat_map, Option, Some, None, is_some, unwrap_or, option_and_then, ℤ, codes, decimal}
+use Rattle.std.specs.Prelude.{ℕ, ◌+◌, Bool, true, false, cond, not, ◌&&◌, ◌||◌, nat_eq, nat_le, List, [], ◌∷◌}
+use Rattle.std.specs.Prelude.{◌++◌, length, map, flat_map, Option, Some, None, is_some, unwrap_or}
+use Rattle.std.specs.Prelude.{option_and_then, ℤ, codes, decimal}
 use Rattle.std.specs.List.{list_any, list_all}
 use Rattle.std.specs.Cmp.Lexicographic.{pointwise}
-use Rattle.toml.specs.Data.{Data, string, integer, array, table, Items, no_items, item, Members, no_members, member, get_member, as_str, as_integer, as_table}
+use Rattle.toml.specs.Data.{Data, string, integer, array, table, Items, no_items, item, Members, no_members}
+use Rattle.toml.specs.Data.{member, get_member, as_str, as_integer, as_table}
 
 -- the text is one of these
 abbrev pub is_among : List (List ℕ) → List ℕ → Bool
@@ -15,7 +18,8 @@ all_differ (byte ∷ bytes) = not (list_any (nat_eq byte) bytes) && all_differ b
 
 -- one or more of these letters, each once. A letter that is not one byte is never named
 abbrev pub is_selection : List (List ℕ) → List ℕ → Bool
-is_selection letters text = (nat_le 1 (length text) && list_all (λ byte. is_among letters (byte ∷ [])) text) && all_differ text
+is_selection letters text =
+    (nat_le 1 (length text) && list_all (λ byte. is_among letters (byte ∷ [])) text) && all_differ text
 
 -- what may stand at a key: a text, an integer, or a selection of letters
 pub data Kind : Type 0 where
@@ -48,7 +52,9 @@ abbrev pub method_keys : List Key
 method_keys = must (codes "letter") text ∷ must (codes "notation") text ∷ may (codes "name") text ∷ []
 
 abbrev pub call_keys : List (List ℕ) → List Key
-call_keys letters = must (codes "mark") text ∷ must (codes "notation") text ∷ may (codes "over") number ∷ may (codes "methods") (selection letters) ∷ []
+call_keys letters =
+    must (codes "mark") text ∷ must (codes "notation") text
+    ∷ may (codes "over") number ∷ may (codes "methods") (selection letters) ∷ []
 
 abbrev pub query_keys : List Key
 query_keys = must (codes "min") number ∷ must (codes "max") number ∷ may (codes "parts") number ∷ []
@@ -72,11 +78,14 @@ key_fault path members key = cond (is_right key (get_member key.name members)) [
 -- the keys that have none of these names. A table's keys ascend by their bytes
 abbrev pub unknown_keys : List ℕ → List (List ℕ) → Members → List (List ℕ)
 unknown_keys path names no_members = []
-unknown_keys path names (member name value rest) = cond (is_among names name) (unknown_keys path names rest) ((path ++ name) ∷ unknown_keys path names rest)
+unknown_keys path names (member name value rest) =
+    cond (is_among names name) (unknown_keys path names rest)
+    ((path ++ name) ∷ unknown_keys path names rest)
 
 -- a table's faults: known keys in their order, then unknown ones
 abbrev pub table_faults : List ℕ → List Key → Members → List (List ℕ)
-table_faults path keys members = flat_map (key_fault path members) keys ++ unknown_keys path (map (λ key. key.name) keys) members
+table_faults path keys members =
+    flat_map (key_fault path members) keys ++ unknown_keys path (map (λ key. key.name) keys) members
 
 -- the items of an array, as a list
 abbrev pub listed : Items → List Data
@@ -102,12 +111,14 @@ item_path name i = name ++ codes "[" ++ decimal i ++ codes "]."
 -- the faults of the items, of which the first has index i
 abbrev pub items_faults : List ℕ → List Key → ℕ → List Data → List (List ℕ)
 items_faults name keys i [] = []
-items_faults name keys i (value ∷ values) = table_faults (item_path name i) keys (members_in value) ++ items_faults name keys (i + 1) values
+items_faults name keys i (value ∷ values) =
+    table_faults (item_path name i) keys (members_in value) ++ items_faults name keys (i + 1) values
 
 -- an array's faults: its name, or those of its items. It may be absent where it may have no items
 abbrev pub array_faults : List ℕ → ℕ → ℕ → List Key → Option Data → List (List ℕ)
 array_faults name least most keys None = cond (nat_eq least 0) [] (name ∷ [])
-array_faults name least most keys (Some (array items)) = cond (are_tables least most (listed items)) (items_faults name keys 0 (listed items)) (name ∷ [])
+array_faults name least most keys (Some (array items)) =
+    cond (are_tables least most (listed items)) (items_faults name keys 0 (listed items)) (name ∷ [])
 array_faults name least most keys (Some _) = name ∷ []
 
 -- the faults of a table in the top: its name, or those of its keys
@@ -169,7 +180,8 @@ text_at name members = unwrap_or (option_and_then as_str (get_member name member
 
 -- the letters of the methods, as they are written
 abbrev pub written_letters : Members → List (List ℕ)
-written_letters members = map (λ value. text_at (codes "letter") (members_in value)) (values_in (get_member (codes "method") members))
+written_letters members =
+    map (λ value. text_at (codes "letter") (members_in value)) (values_in (get_member (codes "method") members))
 
 -- every key at fault, in the order of the file's keys, with the unknown keys of the top last
 unfoldable pub key_faults : Members → List (List ℕ)

@@ -349,8 +349,10 @@ fn read_bytes(alloc: Global, stage: Stage, bytes: &[u8]) -> Result<Vec<Change>, 
 pub fn read_notation(alloc: Global, stage: Stage, text: &str) -> Result<Vec<Change>, NotationFault>
     ensures spelled { IfOk result (λ changes. Spells stage text.now changes.items) }
     ensures refused { IfErr result (λ fault. fault ≢ NotationFault.NoMemory → FirstFault stage text.now fault) }
-    ensures accepts { (changes : List Places) → Spells stage text.now changes → MatchResult result (λ read. read.items ≡ changes) (λ fault. fault ≡ NotationFault.NoMemory) }
-    ensures refuses { (why : NotationFault) → FirstFault stage text.now why → MatchResult result (λ _. ⊥) (λ fault. (fault ≡ why) ⊎ (fault ≡ NotationFault.NoMemory)) }
+    ensures accepts { (changes : List Places) → Spells stage text.now changes →
+        MatchResult result (λ read. read.items ≡ changes) (λ fault. fault ≡ NotationFault.NoMemory) }
+    ensures refuses { (why : NotationFault) → FirstFault stage text.now why →
+        MatchResult result (λ _. ⊥) (λ fault. (fault ≡ why) ⊎ (fault ≡ NotationFault.NoMemory)) }
 {
     a_text_spells_one_list();
     a_text_has_one_first_fault();

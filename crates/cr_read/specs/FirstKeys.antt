@@ -41,7 +41,8 @@ shape_of (shape.Several least most) = keys.several least most
 shape_of (shape.Single needed) = keys.single needed
 
 abbrev pub part_of : List (List ℕ) → Part → keys.Part
-part_of letters part = record { name = part.name.now; shape = shape_of part.shape; keys = map (key_of letters) part.keys.now }
+part_of letters part =
+    record { name = part.name.now; shape = shape_of part.shape; keys = map (key_of letters) part.keys.now }
 
 -- the faults of a table's known keys
 abbrev pub known_faults : List ℕ → List (List ℕ) → List Key → Members → List (List ℕ)

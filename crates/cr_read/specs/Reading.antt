@@ -8,7 +8,8 @@ use Rattle.cr_model.specs.Faults.{IsFirstWrong}
 use Rattle.cr_model.specs.Files.{FileParts, Reads}
 use Rattle.cr_model.specs.Keys.{key_faults}
 use Rattle.toml.specs.Data.{Members}
-use Rattle.cr_model.specs.ProblemFiles.{Tunes, mark_at, is_for, OverIsRight, MarkIsRight, Fits, FitsAll, AreApart, IsFileFault, FirstProblemFault}
+use Rattle.cr_model.specs.ProblemFiles.{Tunes, mark_at, is_for, OverIsRight, MarkIsRight, Fits, FitsAll}
+use Rattle.cr_model.specs.ProblemFiles.{AreApart, IsFileFault, FirstProblemFault}
 
 -- the fault is the file's first, or want of memory
 abbrev pub Refused : FileParts → ProblemFault → Type 0
@@ -47,7 +48,8 @@ NotRead bytes _ = ⊥
 -- they are no table whose keys are right
 abbrev pub NotFile : List ℕ → ProblemFault → Type 0
 NotFile bytes fault.NotToml = (table : Members) → Reads bytes table → ⊥
-NotFile bytes (fault.Key path) = (table : Members) × (rest : List (List ℕ)) × Reads bytes table × (key_faults table ≡ path ∷ rest)
+NotFile bytes (fault.Key path) =
+    (table : Members) × (rest : List (List ℕ)) × Reads bytes table × (key_faults table ≡ path ∷ rest)
 NotFile bytes fault.NoMemory = Unit {0}
 NotFile bytes _ = ⊥
 

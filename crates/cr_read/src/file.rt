@@ -66,7 +66,8 @@ fn limited_of<'a>(table: &'a Value, name: &str) -> Limited<'a>
 const MOST: i64 = 12_000;
 
 fn methods_of<'a>(alloc: Global, root: &'a Value) -> Result<Vec<MethodText<'a>>, AllocError>
-    ensures { IfOk result (λ methods. methods.items ≡ map method_in (values_in (get_member (codes "method") (members_in (view root.now))))) }
+    ensures { IfOk result (λ methods. methods.items ≡
+        map method_in (values_in (get_member (codes "method") (members_in (view root.now))))) }
 {
     let mut methods = Vec::new(alloc);
     for table in items_at(root, "method") {
@@ -76,7 +77,8 @@ fn methods_of<'a>(alloc: Global, root: &'a Value) -> Result<Vec<MethodText<'a>>,
 }
 
 fn calls_of<'a>(alloc: Global, root: &'a Value) -> Result<Vec<CallText<'a>>, AllocError>
-    ensures { IfOk result (λ calls. calls.items ≡ map call_in (values_in (get_member (codes "call") (members_in (view root.now))))) }
+    ensures { IfOk result (λ calls. calls.items ≡
+        map call_in (values_in (get_member (codes "call") (members_in (view root.now))))) }
 {
     let mut calls = Vec::new(alloc);
     for table in items_at(root, "call") {
@@ -92,7 +94,8 @@ fn limits_of<'a>(
     name: &str,
     text: &str,
 ) -> Result<Vec<Limited<'a>>, AllocError>
-    ensures { IfOk result (λ limits. limits.items ≡ map (limited_in text.now) (values_in (get_member name.now (members_in (view root.now))))) }
+    ensures { IfOk result (λ limits. limits.items ≡
+        map (limited_in text.now) (values_in (get_member name.now (members_in (view root.now))))) }
 {
     let mut limits = Vec::new(alloc);
     for table in items_at(root, name) {

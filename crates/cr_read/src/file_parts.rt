@@ -36,7 +36,12 @@ impl<'a> Model for CallText<'a> {
 
     ghost Value = { Parts };
 
-    ghost view = { λ c. record { mark = c.mark.now; notation = c.notation.now; over = c.over; methods = option_map (λ s. s.now) c.methods } };
+    ghost view = { λ c. record {
+      mark = c.mark.now;
+      notation = c.notation.now;
+      over = c.over;
+      methods = option_map (λ s. s.now) c.methods;
+    } };
 }
 
 /// A mark, a letter or a pattern, and its limits.

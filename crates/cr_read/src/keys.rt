@@ -7,7 +7,8 @@ ghost use Rattle.toml.specs.Data.{get_member};
 ghost use Rattle.toml.specs.View.{view, table_view};
 ghost use Rattle.cr_model.specs.Keys.{is_among, all_differ, is_selection, has_kind, is_right, key_fault, unknown_keys};
 ghost use Rattle.cr_model.specs.Keys.{table_faults, is_table, are_tables, item_path, items_faults, array_faults};
-ghost use Rattle.cr_model.specs.Keys.{single_faults, part_faults, parts, top_names, stage_key, key_faults, members_in, text_at};
+ghost use Rattle.cr_model.specs.Keys.{single_faults, part_faults, parts, top_names, stage_key, key_faults};
+ghost use Rattle.cr_model.specs.Keys.{members_in, text_at};
 ghost use Rattle.cr_model.specs.Keys.{written_letters};
 ghost use Rattle.cr_read.specs.FirstKeys.{Checks, letters_in, kind_of, key_of, part_of, known_faults};
 
@@ -193,7 +194,8 @@ fn check_table(
     path: &[u8],
     table: &Value,
 ) -> Result<(), KeyFault>
-    ensures { Checks (table_faults path.now (map (key_of (letters_in methods.now)) keys.now) (members_in (view table.now))) result }
+    ensures { Checks (table_faults path.now (map (key_of (letters_in methods.now)) keys.now)
+        (members_in (view table.now))) result }
 {
     check_known(alloc, methods, keys, path, table)?;
     check_unknown(alloc, keys, path, table)
@@ -213,7 +215,8 @@ fn check_items(
     part: &Part,
     items: &[Value],
 ) -> Result<(), KeyFault>
-    ensures { Checks (items_faults part.now.name.now (map (key_of (letters_in methods.now)) part.now.keys.now) 0 (map view items.now)) result }
+    ensures { Checks (items_faults part.now.name.now (map (key_of (letters_in methods.now)) part.now.keys.now)
+        0 (map view items.now)) result }
 {
     for index in 0..items.len() {
         let path = item_path(alloc, part.name, index)?;
@@ -307,7 +310,8 @@ fn check_parts(
     root: &Value,
     parts: &[Part],
 ) -> Result<(), KeyFault>
-    ensures { Checks (flat_map (part_faults (members_in (view root.now))) (map (part_of (letters_in methods.now)) parts.now)) result }
+    ensures { Checks (flat_map (part_faults (members_in (view root.now)))
+        (map (part_of (letters_in methods.now)) parts.now)) result }
 {
     for part in parts {
         check_part(alloc, methods, root, part)?;
@@ -332,7 +336,8 @@ fn is_of_top(parts: &[Part], name: &str) -> bool
 
 // Refuses the first key of the top that is none of these.
 fn check_top_of(alloc: Global, parts: &[Part], table: &Table) -> Result<(), KeyFault>
-    ensures { Checks (unknown_keys [] (codes "stage" ∷ map (λ part. part.name.now) parts.now) (table_view table.now)) result }
+    ensures { Checks (unknown_keys [] (codes "stage" ∷ map (λ part. part.name.now) parts.now)
+        (table_view table.now)) result }
 {
     for (key, _) in table {
         if !is_of_top(parts, key.as_str()) {
@@ -361,7 +366,8 @@ fn check_stage(alloc: Global, root: &Value) -> Result<(), KeyFault>
 
 // All parts of the file.
 fn check_all_parts(alloc: Global, root: &Value) -> Result<(), KeyFault>
-    ensures { Checks (flat_map (part_faults (members_in (view root.now))) (parts (written_letters (members_in (view root.now))))) result }
+    ensures { Checks (flat_map (part_faults (members_in (view root.now)))
+        (parts (written_letters (members_in (view root.now))))) result }
 {
     check_parts(alloc, items_at(root, "method"), root, PARTS)
 }

@@ -37,7 +37,8 @@ fn table_of(alloc: Global, bytes: &[u8]) -> Result<Value, ProblemFault>
 
 // The table, if each of its keys is right.
 fn checked(alloc: Global, bytes: &[u8]) -> Result<Value, ProblemFault>
-    ensures { MatchResult result (λ root. Reads bytes.now (members_in (view root)) × (key_faults (members_in (view root)) ≡ [])) (NotFile bytes.now) }
+    ensures { MatchResult result (λ root. Reads bytes.now (members_in (view root))
+        × (key_faults (members_in (view root)) ≡ [])) (NotFile bytes.now) }
 {
     let root = table_of(alloc, bytes)?;
     match check_keys(alloc, &root) {
@@ -65,7 +66,8 @@ pub fn read_problem(alloc: Global, bytes: &[u8]) -> Result<Problem, ProblemFault
     ensures problem { IfOk result (λ p. ProblemFile bytes.now p) }
     ensures fault { IfErr result (λ why. why ≢ fault.NoMemory → FirstProblemFault bytes.now why) }
     ensures accepts { (p : ProblemParts) → ProblemFile bytes.now p → (result ≡ Ok p) ⊎ (result ≡ Err fault.NoMemory) }
-    ensures refuses { (why : ProblemFault) → FirstProblemFault bytes.now why → (result ≡ Err why) ⊎ (result ≡ Err fault.NoMemory) }
+    ensures refuses { (why : ProblemFault) → FirstProblemFault bytes.now why →
+        (result ≡ Err why) ⊎ (result ≡ Err fault.NoMemory) }
 {
     // By this law nothing else is right of bytes that the reader has answered.
     bytes_have_one_answer();

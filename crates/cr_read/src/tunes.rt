@@ -48,7 +48,8 @@ impl Model for Tunes {
 
 // The changes of a notation.
 fn tune_of(alloc: Global, stage: Stage, text: &str, whose: Whose) -> Result<Tune, ProblemFault>
-    ensures { MatchResult result (Spells stage text.now) (λ why. (why ≡ fault.NoMemory) ⊎ ((first : NotationFault) × (why ≡ fault.Notation whose first) × FirstFault stage text.now first)) }
+    ensures { MatchResult result (Spells stage text.now) (λ why. (why ≡ fault.NoMemory)
+        ⊎ ((first : NotationFault) × (why ≡ fault.Notation whose first) × FirstFault stage text.now first)) }
 {
     match read_notation(alloc, stage, text) {
         Ok(changes) => Ok(Tune { changes }),
