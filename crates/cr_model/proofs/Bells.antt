@@ -1,90 +1,58 @@
--- Rows have the bells of rounds, and products of such rows.
-use Rattle.std.proofs.Common.{◌≡◌, ℕ, ◌+◌, ◌-◌, ◌<◌, ◌≤◌, Bool, true, false, cond, List, [], ◌∷◌, length, get_or, nat_eq, All, IsPermutation, refl, sym, ap, ap₂, ◌∙◌, arith, ext_get_or}
-use Rattle.std.specs.List.{list_any}
-use Rattle.std.proofs.lemmas.List.{get_or-map, length-map, get_or_default}
-use Rattle.std.proofs.lemmas.List.Elements.{All-nil, All-cons, All-head, All-tail, All-weaker, All-from_get_or, Contains-get_or}
-use Rattle.std.proofs.lemmas.List.FromFn.{length-range_with_len, get_or-range_with_len}
-use Rattle.std.proofs.lemmas.List.Sorted.{IsPermutation-refl, IsPermutation-cons, IsPermutation-swap, IsPermutation-trans, All-permutation, Contains-permutation, length_permutation}
-use Rattle.cr_row.specs.Rows.{Places, rounds, product, changed, after}
+-- What the laws of rows and changes say of rows that are rung one after another.
+use Rattle.std.proofs.Common.{◌≡◌, ℕ, List, [], ◌∷◌, length, All, sym, ap, ◌∙◌}
+use Rattle.std.proofs.lemmas.List.Elements.{All-nil, All-cons}
+use Rattle.cr_row.specs.Rows.{IsRow, IsInverse, Places, rounds, product, after}
 use Rattle.cr_model.specs.Callings.{rows_from, last_of}
+use Rattle.cr_model.proofs.Ringing.{AfterProduct, RoundsRight}
 
--- the bells only change places
-changed_permutes : (made : List ℕ) (p : ℕ) (row : List ℕ) → IsPermutation row (changed made p row)
-changed_permutes made p [] = IsPermutation-refl []
-changed_permutes made p (x ∷ []) = IsPermutation-refl (x ∷ [])
-changed_permutes made p (x ∷ y ∷ xs) =
-    by (list_any (nat_eq p) made) (changed_permutes made (p + 1) (y ∷ xs)) (changed_permutes made (p + 2) xs)
-  where
-    by : (b : Bool) → IsPermutation (y ∷ xs) (changed made (p + 1) (y ∷ xs)) → IsPermutation xs (changed made (p + 2) xs) → IsPermutation (x ∷ y ∷ xs) (cond b (x ∷ changed made (p + 1) (y ∷ xs)) (y ∷ x ∷ changed made (p + 2) xs))
-    by true one two = IsPermutation-cons x (y ∷ xs) (changed made (p + 1) (y ∷ xs)) one
-    by false one two = IsPermutation-trans (x ∷ y ∷ xs) (y ∷ x ∷ xs) (y ∷ x ∷ changed made (p + 2) xs)
-        (IsPermutation-swap (x ∷ y ∷ xs) (y ∷ x ∷ xs) 0 1 (omega arith) (omega arith) refl)
-        (IsPermutation-cons y (x ∷ xs) (x ∷ changed made (p + 2) xs) (IsPermutation-cons x xs (changed made (p + 2) xs) two))
+-- the laws of rows and changes, as their crate proves them
+pub record RowLaws : Type 0 where
+  pub rounds_row : (n : ℕ) → IsRow (rounds n)
+  pub rounds_length : (n : ℕ) → length (rounds n) ≡ n
+  pub rounds_right : RoundsRight
+  pub rounds_left : (r : List ℕ) → IsRow r → product (rounds (length r)) r ≡ r
+  pub after_row : (c : Places) (r : List ℕ) → IsRow r → IsRow (after c r)
+  pub after_length : (c : Places) (r : List ℕ) → length (after c r) ≡ length r
+  pub after_product : AfterProduct
+  pub associates : (g h r : List ℕ) → IsRow r → length h ≡ length r → product (product g h) r ≡ product g (product h r)
+  pub one_side : (h r : List ℕ) → IsRow h → IsRow r → length h ≡ length r → product h r ≡ rounds (length h) → IsInverse h r
 
--- the last row too
-pub last_permutes : (row : List ℕ) (changes : List Places) → IsPermutation row (last_of row (rows_from row changes))
-last_permutes row [] = IsPermutation-refl row
-last_permutes row (change ∷ changes) =
-    IsPermutation-trans row (after change row) (last_of (after change row) (rows_from (after change row) changes)) (changed_permutes change.made 1 row) (last_permutes (after change row) changes)
+-- a row of n bells
+pub record IsRowOf (n : ℕ) (row : List ℕ) : Type 0 where
+  pub is : IsRow row
+  pub long : length row ≡ n
 
--- and each row
-rows_permute : (row : List ℕ) (changes : List Places) → All (IsPermutation row) (rows_from row changes)
-rows_permute row [] = All-nil (IsPermutation row)
-rows_permute row (change ∷ changes) =
-    let here : IsPermutation row (after change row) = changed_permutes change.made 1 row in
-    All-cons (IsPermutation row) (after change row) (rows_from (after change row) changes) here
-    (All-weaker (IsPermutation (after change row)) (IsPermutation row) (λ next later. IsPermutation-trans row (after change row) next here later) (rows_from (after change row) changes) (rows_permute (after change row) changes))
+module _ (laws : RowLaws) where
+  rounds_of : (n : ℕ) → IsRowOf n (rounds n)
+  rounds_of n = record { is = laws.rounds_row n; long = laws.rounds_length n }
 
--- each bell is one of 1 to n
-abbrev pub AreBells : ℕ → List ℕ → Type 0
-AreBells n row = All (λ b. (0 < b) × (b ≤ n)) row
+  after_of : (n : ℕ) (change : Places) (row : List ℕ) → IsRowOf n row → IsRowOf n (after change row)
+  after_of n change row h = record { is = laws.after_row change row h.is; long = laws.after_length change row ∙ h.long }
 
--- the bells of rounds
-bells_of_rounds : (n : ℕ) → AreBells n (rounds n)
-bells_of_rounds n = All-from_get_or (λ b. (0 < b) × (b ≤ n)) (rounds n) 0 (λ i inside.
-    let at : get_or (rounds n) i 0 ≡ 1 + i = get_or-range_with_len 1 n i 0 (omega (arith, length-range_with_len 1 n)) in
-    (omega (arith, length-range_with_len 1 n), omega (arith, length-range_with_len 1 n)))
+  rows_from_of : (n : ℕ) (row : List ℕ) (changes : List Places) → IsRowOf n row → All (IsRowOf n) (rows_from row changes)
+  rows_from_of n row [] h = All-nil (IsRowOf n)
+  rows_from_of n row (change ∷ changes) h =
+      let next : IsRowOf n (after change row) = after_of n change row h in
+      All-cons (IsRowOf n) (after change row) (rows_from (after change row) changes) next (rows_from_of n (after change row) changes next)
 
--- the bells of rows from rounds
-pub rows_are_bells : (n : ℕ) (changes : List Places) → All (AreBells n) (rows_from (rounds n) changes)
-rows_are_bells n changes =
-    All-weaker (IsPermutation (rounds n)) (AreBells n) (λ row moved. All-permutation (λ b. (0 < b) × (b ≤ n)) (rounds n) row moved (bells_of_rounds n)) (rows_from (rounds n) changes) (rows_permute (rounds n) changes)
+  last_from_of : (n : ℕ) (row : List ℕ) (changes : List Places) → IsRowOf n row → IsRowOf n (last_of row (rows_from row changes))
+  last_from_of n row [] h = h
+  last_from_of n row (change ∷ changes) h = last_from_of n (after change row) changes (after_of n change row h)
 
--- the length of such a row
-pub length_as_rounds : (n : ℕ) (row : List ℕ) → IsPermutation (rounds n) row → length row ≡ n
-length_as_rounds n row moved = length_permutation (rounds n) row moved ∙ length-range_with_len 1 n
+  -- each row from rounds
+  pub rows_are_rows : (n : ℕ) (changes : List Places) → All (IsRowOf n) (rows_from (rounds n) changes)
+  rows_are_rows n changes = rows_from_of n (rounds n) changes (rounds_of n)
 
--- two products are one by the product
-product_again : (n : ℕ) (h g row : List ℕ) → length g ≡ n → AreBells n row → product h (product g row) ≡ product (product h g) row
-product_again n h g [] long bells = refl
-product_again n h g (b ∷ row) long bells =
-    let bell : (0 < b) × (b ≤ n) = All-head (λ b. (0 < b) × (b ≤ n)) b row bells in
-    ap₂ ◌∷◌ (sym (get_or-map (λ b. get_or h (b - 1) 0) g (b - 1) 0 0 (omega arith))) (product_again n h g row long (All-tail (λ b. (0 < b) × (b ≤ n)) b row bells))
+  -- the last one too
+  pub last_is_row : (n : ℕ) (changes : List Places) → IsRowOf n (last_of (rounds n) (rows_from (rounds n) changes))
+  last_is_row n changes = last_from_of n (rounds n) changes (rounds_of n)
 
--- the product of rounds with a row is the row
-product_by_rounds : (n : ℕ) (row : List ℕ) → AreBells n row → product (rounds n) row ≡ row
-product_by_rounds n [] bells = refl
-product_by_rounds n (b ∷ row) bells =
-    let bell : (0 < b) × (b ≤ n) = All-head (λ b. (0 < b) × (b ≤ n)) b row bells in
-    let here : get_or (rounds n) (b - 1) 0 ≡ b = get_or-range_with_len 1 n (b - 1) 0 (omega arith) ∙ omega arith in
-    ap₂ ◌∷◌ here (product_by_rounds n row (All-tail (λ b. (0 < b) × (b ≤ n)) b row bells))
+  -- what g does h undoes
+  pub undone : (n : ℕ) (h g row : List ℕ) → IsRowOf n g → product h g ≡ rounds n → IsRowOf n row → product h (product g row) ≡ row
+  undone n h g row mid home is =
+      sym (laws.associates h g row is.is (mid.long ∙ sym is.long)) ∙ ap (λ l. product l row) (home ∙ ap rounds (sym is.long)) ∙ laws.rounds_left row is.is
 
--- what g does h undoes
-pub undone : (n : ℕ) (h g row : List ℕ) → length g ≡ n → product h g ≡ rounds n → AreBells n row → product h (product g row) ≡ row
-undone n h g row long home bells = product_again n h g row long bells ∙ ap (λ l. product l row) home ∙ product_by_rounds n row bells
-
--- a row that is undone on one side is undone on the other
-pub undone_back : (n : ℕ) (h g : List ℕ) → length h ≡ n → IsPermutation (rounds n) g → product h g ≡ rounds n → product g h ≡ rounds n
-undone_back n h g long moved home =
-    ext_get_or 0 (product g h) (rounds n) (length-map h (λ b. get_or g (b - 1) 0) ∙ long ∙ sym (length-range_with_len 1 n)) (λ j inside.
-    let short : j < n = omega (arith, length-map h (λ b. get_or g (b - 1) 0)) in
-    let at : get_or (rounds n) j 0 ≡ 1 + j = get_or-range_with_len 1 n j 0 short in
-    let held = Contains-permutation (rounds n) g (get_or (rounds n) j 0) moved (Contains-get_or (rounds n) j 0 (omega (arith, length-range_with_len 1 n))) in
-    let i : ℕ = held.0 in
-    let within : i < length g = held.1 in
-    let bell : get_or g i 0 ≡ 1 + j = get_or_default g i 0 (get_or (rounds n) j 0) within ∙ held.2 ∙ at in
-    let place : get_or g i 0 - 1 ≡ j = omega arith in
-    let long' : length g ≡ n = length_as_rounds n g moved in
-    let other : get_or h j 0 ≡ 1 + i = ap (λ k. get_or h k 0) (sym place) ∙ sym (get_or-map (λ b. get_or h (b - 1) 0) g i 0 0 within) ∙ ap (λ l. get_or l i 0) home ∙ get_or-range_with_len 1 n i 0 (omega arith) in
-    let back : get_or h j 0 - 1 ≡ i = omega arith in
-    get_or-map (λ b. get_or g (b - 1) 0) h j 0 0 (omega arith) ∙ ap (λ k. get_or g k 0) back ∙ bell ∙ sym at)
+  -- a row that is undone on one side is undone on the other
+  pub undone_back : (n : ℕ) (h g : List ℕ) → IsRowOf n h → IsRowOf n g → product h g ≡ rounds n → product g h ≡ rounds n
+  undone_back n h g one two home =
+      (laws.one_side h g one.is two.is (one.long ∙ sym two.long) (home ∙ ap rounds (sym one.long))).left ∙ ap rounds one.long

@@ -4,7 +4,8 @@ use Rattle.std.specs.Bool.{IsTrue}
 use Rattle.std.proofs.lemmas.Bool.{false≢true, cases_lt}
 use Rattle.cr_model.specs.declared.lead.Step.{Step}
 use Rattle.cr_model.specs.Problems.{LeadParts}
-use Rattle.cr_model.specs.Sound.{step_at, LeadIsRight, IsNextStep}
+use Rattle.cr_model.specs.Callings.{step_at}
+use Rattle.cr_model.specs.Right.{LeadIsRight, IsNextStep}
 
 -- a test that fails
 pub refuted : (b : Bool) (P : Type 0) → IsTrue b ↔ P → b ≡ false → P → ⊥

@@ -2,9 +2,10 @@ pub mod Bells
 pub mod Checking
 pub mod Counting
 pub mod Differing
+pub mod FirstFailure
 pub mod InOrder
 pub mod LeastRotation
-pub mod Lengths
+pub mod Measured
 pub mod Minimus
 pub mod OneFault
 pub mod Parts

@@ -1,9 +1,7 @@
 -- Rows that are rung one after another, and from another row than rounds.
-use Rattle.std.proofs.Common.{◌≡◌, ℕ, ◌+◌, ◌-◌, Bool, true, false, cond, List, [], ◌∷◌, ◌++◌, length, get_or, map, nat_eq, refl, sym, ap, ◌∙◌, arith, ext_get_or, length-append}
-use Rattle.std.specs.List.{list_any}
+use Rattle.std.proofs.Common.{◌≡◌, ℕ, ◌+◌, List, [], ◌∷◌, ◌++◌, length, map, refl, sym, ap, ◌∙◌, length-append}
 use Rattle.std.proofs.lemmas.List.Concat.{flat_map-append}
-use Rattle.std.proofs.lemmas.List.FromFn.{length-map-range_with_len, get_or-map-range_with_len}
-use Rattle.cr_row.specs.Rows.{Places, rounds, product, changed, after}
+use Rattle.cr_row.specs.Rows.{Places, rounds, product, after}
 use Rattle.cr_model.specs.Problems.{ProblemParts}
 use Rattle.cr_model.specs.Callings.{changes_of, changes_of_all, rows_from, last_of, rows_of, length_of, head_of}
 
@@ -34,32 +32,23 @@ pub head_on : (p : ProblemParts) (calling more : List ℕ) → head_of p (callin
 head_on p calling more = ap (last_of (rounds p.stage)) (rows_on p calling more) ∙ last_of-append (rounds p.stage) (rows_of p calling) (rows_from (head_of p calling) (changes_of_all p more))
 
 -- a change after a product is the product with the changed row
-changed_product : (h made : List ℕ) (p : ℕ) (row : List ℕ) → changed made p (product h row) ≡ product h (changed made p row)
-changed_product h made p [] = refl
-changed_product h made p (x ∷ []) = refl
-changed_product h made p (x ∷ y ∷ xs) = by (list_any (nat_eq p) made) (changed_product h made (p + 1) (y ∷ xs)) (changed_product h made (p + 2) xs)
-  where
-    by : (b : Bool) → changed made (p + 1) (product h (y ∷ xs)) ≡ product h (changed made (p + 1) (y ∷ xs)) → changed made (p + 2) (product h xs) ≡ product h (changed made (p + 2) xs)
-        → cond b (get_or h (x - 1) 0 ∷ changed made (p + 1) (product h (y ∷ xs))) (get_or h (y - 1) 0 ∷ get_or h (x - 1) 0 ∷ changed made (p + 2) (product h xs))
-        ≡ product h (cond b (x ∷ changed made (p + 1) (y ∷ xs)) (y ∷ x ∷ changed made (p + 2) xs))
-    by true one two = ap (λ l. get_or h (x - 1) 0 ∷ l) one
-    by false one two = ap (λ l. get_or h (y - 1) 0 ∷ get_or h (x - 1) 0 ∷ l) two
+abbrev pub AfterProduct : Type 0
+AfterProduct = (c : Places) (h r : List ℕ) → after c (product h r) ≡ product h (after c r)
+
+-- rounds is neutral on the right
+abbrev pub RoundsRight : Type 0
+RoundsRight = (h : List ℕ) → product h (rounds (length h)) ≡ h
 
 -- the rows from a product are the products with the rows
-pub rows_from_product : (h row : List ℕ) (changes : List Places) → rows_from (product h row) changes ≡ map (product h) (rows_from row changes)
-rows_from_product h row [] = refl
-rows_from_product h row (change ∷ changes) =
-    let next : after change (product h row) ≡ product h (after change row) = changed_product h change.made 1 row in
-    ap (λ r. r ∷ rows_from r changes) next ∙ ap (λ rows. product h (after change row) ∷ rows) (rows_from_product h (after change row) changes)
+pub rows_from_product : AfterProduct → (h row : List ℕ) (changes : List Places) → rows_from (product h row) changes ≡ map (product h) (rows_from row changes)
+rows_from_product after_product h row [] = refl
+rows_from_product after_product h row (change ∷ changes) =
+    ap (λ r. r ∷ rows_from r changes) (after_product change h row) ∙ ap (λ rows. product h (after change row) ∷ rows) (rows_from_product after_product h (after change row) changes)
 
 -- the product of a row with rounds is the row
-pub product_of_rounds : (row : List ℕ) (n : ℕ) → length row ≡ n → product row (rounds n) ≡ row
-product_of_rounds row n long =
-    let same_length : length (product row (rounds n)) ≡ n = length-map-range_with_len (λ b. get_or row (b - 1) 0) 1 n in
-    ext_get_or 0 (product row (rounds n)) row (same_length ∙ sym long) (λ i inside.
-    let here : 1 + i - 1 ≡ i = omega arith in
-    get_or-map-range_with_len (λ b. get_or row (b - 1) 0) 1 n i (1 + i) 0 (omega arith) refl ∙ ap (λ k. get_or row k 0) here)
+pub product_of_rounds : RoundsRight → (row : List ℕ) (n : ℕ) → length row ≡ n → product row (rounds n) ≡ row
+product_of_rounds right row n long = ap (λ k. product row (rounds k)) (sym long) ∙ right row
 
 -- the rows from a row are its products with the rows from rounds
-pub rung_from : (n : ℕ) (row : List ℕ) (changes : List Places) → length row ≡ n → rows_from row changes ≡ map (product row) (rows_from (rounds n) changes)
-rung_from n row changes long = ap (λ r. rows_from r changes) (sym (product_of_rounds row n long)) ∙ rows_from_product row (rounds n) changes
+pub rung_from : AfterProduct → RoundsRight → (n : ℕ) (row : List ℕ) (changes : List Places) → length row ≡ n → rows_from row changes ≡ map (product row) (rows_from (rounds n) changes)
+rung_from after_product right n row changes long = ap (λ r. rows_from r changes) (sym (product_of_rounds right row n long)) ∙ rows_from_product after_product row (rounds n) changes

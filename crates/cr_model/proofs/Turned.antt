@@ -1,12 +1,12 @@
 -- A rotation of a true touch is one.
-use Rattle.std.proofs.Common.{◌≡◌, ◌≢◌, ℕ, ◌+◌, List, [], ◌∷◌, ◌++◌, length, map, All, IsPermutation, refl, sym, ap, ◌∙◌, subst, arith, length-append}
+use Rattle.std.proofs.Common.{◌≡◌, ◌≢◌, ℕ, ◌+◌, List, [], ◌∷◌, ◌++◌, length, map, All, refl, sym, ap, ◌∙◌, subst, arith, length-append}
 use Rattle.std.proofs.lemmas.List.{nil_from_length, map-append}
 use Rattle.std.proofs.lemmas.List.Elements.{All-weaker}
 use Rattle.cr_row.specs.Rows.{rounds, product}
 use Rattle.cr_model.specs.Problems.{ProblemParts}
 use Rattle.cr_model.specs.Callings.{changes_of_all, last_of, rows_of, length_of, head_of, AllDiffer, TrueTouch}
 use Rattle.cr_model.specs.Touches.{IsRotation}
-use Rattle.cr_model.proofs.Bells.{AreBells, last_permutes, rows_are_bells, length_as_rounds, undone, undone_back}
+use Rattle.cr_model.proofs.Bells.{RowLaws, IsRowOf, rows_are_rows, last_is_row, undone, undone_back}
 use Rattle.cr_model.proofs.Differing.{differ_swapped, differ_mapped, map_undone}
 use Rattle.cr_model.proofs.Ringing.{rows_on, lengths_on, head_on, rung_from, product_of_rounds}
 
@@ -15,26 +15,24 @@ last_of-map : (f : List ℕ → List ℕ) (row : List ℕ) (rows : List (List �
 last_of-map f row [] = refl
 last_of-map f row (next ∷ rows) = last_of-map f next rows
 
--- a head has the bells of rounds
-head_permutes : (p : ProblemParts) (calling : List ℕ) → IsPermutation (rounds p.stage) (head_of p calling)
-head_permutes p calling = last_permutes (rounds p.stage) (changes_of_all p calling)
+module _ (laws : RowLaws) where
+  -- a head is a row of the stage
+  head_is_row : (p : ProblemParts) (calling : List ℕ) → IsRowOf p.stage (head_of p calling)
+  head_is_row p calling = last_is_row laws p.stage (changes_of_all p calling)
 
--- and its length is the stage
-head_length : (p : ProblemParts) (calling : List ℕ) → length (head_of p calling) ≡ p.stage
-head_length p calling = length_as_rounds p.stage (head_of p calling) (head_permutes p calling)
+  -- the rows of joined callings
+  pub rows_joined : (p : ProblemParts) (calling more : List ℕ) → rows_of p (calling ++ more) ≡ rows_of p calling ++ map (product (head_of p calling)) (rows_of p more)
+  rows_joined p calling more = rows_on p calling more ∙ ap (λ rows. rows_of p calling ++ rows) (rung_from laws.after_product laws.rounds_right p.stage (head_of p calling) (changes_of_all p more) (head_is_row p calling).long)
 
--- the rows of joined callings
-pub rows_joined : (p : ProblemParts) (calling more : List ℕ) → rows_of p (calling ++ more) ≡ rows_of p calling ++ map (product (head_of p calling)) (rows_of p more)
-rows_joined p calling more = rows_on p calling more ∙ ap (λ rows. rows_of p calling ++ rows) (rung_from p.stage (head_of p calling) (changes_of_all p more) (head_length p calling))
-
--- the head of joined callings
-pub head_joined : (p : ProblemParts) (calling more : List ℕ) → head_of p (calling ++ more) ≡ product (head_of p calling) (head_of p more)
-head_joined p calling more =
-    let head : List ℕ = head_of p calling in
-    head_on p calling more
-    ∙ ap (last_of head) (rung_from p.stage head (changes_of_all p more) (head_length p calling))
-    ∙ ap (λ row. last_of row (map (product head) (rows_of p more))) (sym (product_of_rounds head p.stage (head_length p calling)))
-    ∙ last_of-map (product head) (rounds p.stage) (rows_of p more)
+  -- the head of joined callings
+  pub head_joined : (p : ProblemParts) (calling more : List ℕ) → head_of p (calling ++ more) ≡ product (head_of p calling) (head_of p more)
+  head_joined p calling more =
+      let head : List ℕ = head_of p calling in
+      let long : length (head_of p calling) ≡ p.stage = (head_is_row p calling).long in
+      head_on p calling more
+      ∙ ap (last_of head) (rung_from laws.after_product laws.rounds_right p.stage head (changes_of_all p more) long)
+      ∙ ap (λ row. last_of row (map (product head) (rows_of p more))) (sym (product_of_rounds laws.rounds_right head p.stage long))
+      ∙ last_of-map (product head) (rounds p.stage) (rows_of p more)
 
 -- a rotation is as long
 length_turned : (p : ProblemParts) (calling other : List ℕ) → IsRotation calling other → length_of p other ≡ length_of p calling
@@ -52,29 +50,29 @@ some_turned calling other turned some none =
     some (nil_from_length calling (omega arith))
 
 -- two callings that come home together, joined the other way
-module _ (p : ProblemParts) (front back : List ℕ) (home : product (head_of p front) (head_of p back) ≡ rounds p.stage) where
+module _ (laws : RowLaws) (p : ProblemParts) (front back : List ℕ) (home : product (head_of p front) (head_of p back) ≡ rounds p.stage) where
   -- the heads undo each other
   home_back : product (head_of p back) (head_of p front) ≡ rounds p.stage
-  home_back = undone_back p.stage (head_of p front) (head_of p back) (head_length p front) (head_permutes p back) home
+  home_back = undone_back laws p.stage (head_of p front) (head_of p back) (head_is_row laws p front) (head_is_row laws p back) home
 
   -- the rotation comes home
   pub home_turned : head_of p (back ++ front) ≡ rounds p.stage
-  home_turned = head_joined p back front ∙ home_back
+  home_turned = head_joined laws p back front ∙ home_back
 
   -- the head of the back undoes that of the front
   back_undoes : All (λ row. product (head_of p back) (product (head_of p front) row) ≡ row) (rows_of p back)
-  back_undoes = All-weaker (AreBells p.stage) (λ row. product (head_of p back) (product (head_of p front) row) ≡ row)
-      (λ row bells. undone p.stage (head_of p back) (head_of p front) row (head_length p front) home_back bells) (rows_of p back) (rows_are_bells p.stage (changes_of_all p back))
+  back_undoes = All-weaker (IsRowOf p.stage) (λ row. product (head_of p back) (product (head_of p front) row) ≡ row)
+      (λ row is. undone laws p.stage (head_of p back) (head_of p front) row (head_is_row laws p front) home_back is) (rows_of p back) (rows_are_rows laws p.stage (changes_of_all p back))
 
   -- and that of the front undoes it
   front_undoes : All (λ row. product (head_of p front) (product (head_of p back) row) ≡ row) (rows_of p (front ++ back))
-  front_undoes = All-weaker (AreBells p.stage) (λ row. product (head_of p front) (product (head_of p back) row) ≡ row)
-      (λ row bells. undone p.stage (head_of p front) (head_of p back) row (head_length p back) home bells) (rows_of p (front ++ back)) (rows_are_bells p.stage (changes_of_all p (front ++ back)))
+  front_undoes = All-weaker (IsRowOf p.stage) (λ row. product (head_of p front) (product (head_of p back) row) ≡ row)
+      (λ row is. undone laws p.stage (head_of p front) (head_of p back) row (head_is_row laws p back) home is) (rows_of p (front ++ back)) (rows_are_rows laws p.stage (changes_of_all p (front ++ back)))
 
   -- the rows by the head of the back are those of the rotation, in another order
   rows_turned : map (product (head_of p back)) (rows_of p (front ++ back)) ≡ map (product (head_of p back)) (rows_of p front) ++ rows_of p back
   rows_turned =
-      ap (map (product (head_of p back))) (rows_joined p front back)
+      ap (map (product (head_of p back))) (rows_joined laws p front back)
       ∙ map-append (product (head_of p back)) (rows_of p front) (map (product (head_of p front)) (rows_of p back))
       ∙ ap (λ rows. map (product (head_of p back)) (rows_of p front) ++ rows) (map_undone (product (head_of p front)) (product (head_of p back)) (rows_of p back) back_undoes)
 
@@ -82,16 +80,16 @@ module _ (p : ProblemParts) (front back : List ℕ) (home : product (head_of p f
   pub differ_turned : AllDiffer (rows_of p (front ++ back)) → AllDiffer (rows_of p (back ++ front))
   differ_turned differ =
       let all : AllDiffer (map (product (head_of p back)) (rows_of p (front ++ back))) = differ_mapped (product (head_of p back)) (product (head_of p front)) (rows_of p (front ++ back)) front_undoes differ in
-      subst AllDiffer (sym (rows_joined p back front)) (differ_swapped (map (product (head_of p back)) (rows_of p front)) (rows_of p back) (subst AllDiffer rows_turned all))
+      subst AllDiffer (sym (rows_joined laws p back front)) (differ_swapped (map (product (head_of p back)) (rows_of p front)) (rows_of p back) (subst AllDiffer rows_turned all))
 
 -- a rotation of a true touch is a true touch of its length
-pub touch_turned : (p : ProblemParts) (calling other : List ℕ) → TrueTouch p calling → IsRotation calling other → TrueTouch p other × (length_of p other ≡ length_of p calling)
-touch_turned p calling other touch turned =
-    let home : product (head_of p turned.0) (head_of p turned.1) ≡ rounds p.stage = sym (head_joined p turned.0 turned.1) ∙ ap (head_of p) (sym turned.2) ∙ touch.home in
+pub touch_turned : RowLaws → (p : ProblemParts) (calling other : List ℕ) → TrueTouch p calling → IsRotation calling other → TrueTouch p other × (length_of p other ≡ length_of p calling)
+touch_turned laws p calling other touch turned =
+    let home : product (head_of p turned.0) (head_of p turned.1) ≡ rounds p.stage = sym (head_joined laws p turned.0 turned.1) ∙ ap (head_of p) (sym turned.2) ∙ touch.home in
     let differ : AllDiffer (rows_of p (turned.0 ++ turned.1)) = subst (λ (c : List ℕ). AllDiffer (rows_of p c)) turned.2 touch.differ in
     let touch' : TrueTouch p other = record {
       some = some_turned calling other turned touch.some;
-      home = ap (head_of p) turned.3 ∙ home_turned p turned.0 turned.1 home;
-      differ = subst (λ (c : List ℕ). AllDiffer (rows_of p c)) (sym turned.3) (differ_turned p turned.0 turned.1 home differ);
+      home = ap (head_of p) turned.3 ∙ home_turned laws p turned.0 turned.1 home;
+      differ = subst (λ (c : List ℕ). AllDiffer (rows_of p c)) (sym turned.3) (differ_turned laws p turned.0 turned.1 home differ);
     } in
     (touch', length_turned p calling other turned)

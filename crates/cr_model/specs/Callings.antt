@@ -1,5 +1,7 @@
 -- Callings, which are lists of step numbers: their changes, rows, length and head, and true touches.
 use Rattle.std.specs.Prelude.{◌≡◌, ◌≢◌, ℕ, ◌-◌, ◌<◌, List, [], ◌∷◌, ◌++◌, length, get_or, map, take, flat_map, min, All, Option, unwrap_or}
+use Rattle.std.proofs.Common.{ap, sym, ◌∙◌}
+use Rattle.std.proofs.lemmas.List.{get_or-map}
 use Rattle.cr_row.specs.Rows.{Places, rounds, after}
 use Rattle.cr_model.specs.declared.lead.Step.{Step}
 use Rattle.cr_model.specs.Problems.{LeadParts, ProblemParts}
@@ -8,9 +10,16 @@ use Rattle.cr_model.specs.Problems.{LeadParts, ProblemParts}
 abbrev pub called : Option ℕ → List Places → List Places → List Places
 called over call changes = take (length changes - unwrap_or over (length call)) changes ++ call
 
+-- the step and the changes of the lead at an index
+abbrev pub step_at : List LeadParts → ℕ → Step
+step_at leads i = get_or (map (λ lead. lead.step) leads) i (record { method = 0; mark = 0 })
+
+abbrev pub changes_at : List LeadParts → ℕ → List Places
+changes_at leads i = get_or (map (λ lead. lead.changes) leads) i []
+
 -- the changes of a step
 abbrev pub changes_of : ProblemParts → ℕ → List Places
-changes_of p step = get_or (map (λ lead. lead.changes) p.leads) step []
+changes_of p step = changes_at p.leads step
 
 -- the number of changes of a step
 abbrev pub lead_length : ProblemParts → ℕ → ℕ
@@ -18,7 +27,7 @@ lead_length p step = length (changes_of p step)
 
 -- a step's method and mark
 abbrev pub step_of : ProblemParts → ℕ → Step
-step_of p step = get_or (map (λ lead. lead.step) p.leads) step (record { method = 0; mark = 0 })
+step_of p step = step_at p.leads step
 
 abbrev pub method_of : ProblemParts → ℕ → ℕ
 method_of p step = (step_of p step).method
@@ -29,10 +38,6 @@ mark_of p step = (step_of p step).mark
 -- the letter of a step's method
 abbrev pub letter_of : ProblemParts → ℕ → ℕ
 letter_of p step = get_or p.letters (method_of p step) 0
-
--- the number of changes of a lead of a list
-abbrev pub change_count : List LeadParts → ℕ → ℕ
-change_count leads i = get_or (map (λ lead. length lead.changes) leads) i 0
 
 -- the least of some numbers
 abbrev pub least : List ℕ → ℕ
@@ -83,3 +88,10 @@ pub record TrueTouch (p : ProblemParts) (calling : List ℕ) : Type 0 where
   pub some : calling ≢ []
   pub home : head_of p calling ≡ rounds p.stage
   pub differ : AllDiffer (rows_of p calling)
+
+-- the lead at an index, by its parts
+pub step_at_is : (leads : List LeadParts) (i : ℕ) (lead : LeadParts) → i < length leads → lead ≡ get_or leads i lead → lead.step ≡ step_at leads i
+step_at_is leads i lead h e = ap (λ l. l.step) e ∙ sym (get_or-map (λ l. l.step) leads i lead (record { method = 0; mark = 0 }) h)
+
+pub changes_at_is : (leads : List LeadParts) (i : ℕ) (lead : LeadParts) → i < length leads → lead ≡ get_or leads i lead → lead.changes ≡ changes_at leads i
+changes_at_is leads i lead h e = ap (λ l. l.changes) e ∙ sym (get_or-map (λ l. l.changes) leads i lead [] h)

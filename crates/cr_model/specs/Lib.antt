@@ -5,8 +5,12 @@ pub mod Queries
 pub mod Touches
 pub mod Nodes
 pub mod Books
-pub mod Sound
+pub mod Checks
+pub mod Limits
+pub mod Right
 pub mod Faults
+pub mod Sound
+pub mod GivenParts
 pub mod Examples
 pub mod Notation
 pub mod NotationFaults

@@ -1,147 +1,40 @@
--- What holds of the parts of every problem, check by check.
-use Rattle.std.specs.Prelude.{◌≡◌, ◌≢◌, ℕ, ◌+◌, ◌-◌, ◌/◌, ◌<◌, ◌≤◌, ◌⊎◌, Bool, true, false, ℤ, pos, ◌≤ℤ◌, List, [], length, get_or, map, count_by, All, Option, Some, None, IfSome}
-use Rattle.std.proofs.Common.{ap, sym, ◌∙◌}
-use Rattle.std.proofs.lemmas.List.{get_or-map}
-use Rattle.cr_row.specs.Rows.{Places}
-use Rattle.cr_model.specs.declared.lead.Step.{Step}
-use Rattle.cr_model.specs.declared.query.Count.{Count}
-use Rattle.cr_model.specs.declared.query.MethodCount.{MethodCount}
-use Rattle.cr_model.specs.declared.query.Cell.{Cell}
-use Rattle.cr_model.specs.declared.query.Cell.TheVariants as cell
-use Rattle.cr_model.specs.declared.query.Com.{Com}
-use Rattle.cr_model.specs.Problems.{LeadParts, PatternParts, ProblemParts}
+-- What every problem keeps.
+use Rattle.std.specs.Prelude.{◌/◌, ◌≤◌, pos, ◌≤ℤ◌, length, Result, MatchResult}
+use Rattle.cr_model.specs.declared.fault.PartFault.{PartFault}
+use Rattle.cr_model.specs.Problems.{ProblemParts}
 use Rattle.cr_model.specs.Callings.{shortest}
 use Rattle.cr_model.specs.Queries.{cap}
+use Rattle.cr_model.specs.Limits.{most_steps, most_leads, most_parts}
+use Rattle.cr_model.specs.Checks.{AllHold}
+use Rattle.cr_model.specs.Faults.{checks, IsPartFault}
+pub use Rattle.cr_model.specs.Callings.{step_at, changes_at, step_at_is, changes_at_is}
+pub use Rattle.cr_model.specs.Right.{plain, LetterIsRight, LettersAreRight, IsNextMark, IsNextStep, StepIsRight, LeadIsRight, LeadsAreRight, LimitsAreRight, CountIsRight, count_at, MethodCountIsRight, method_count_at, bell_named, is_run, cell_at, FitsStage, CellsAreRight, PatternIsRight, pattern_at, ComIsRight}
 
--- the mark of a plain lead, `p`
-abbrev pub plain : ℕ
-plain = 112
-
--- the letter at an index: one of the first eight, `A` to `Z`, and no earlier letter
-pub record LetterIsRight (letters : List ℕ) (i : ℕ) : Type 0 where
-  pub few : i < 8
-  pub from : 65 ≤ get_or letters i 0
-  pub to : get_or letters i 0 ≤ 90
-  pub new : (j : ℕ) → j < i → get_or letters j 0 ≢ get_or letters i 0
-
-pub record LettersAreRight (letters : List ℕ) : Type 0 where
-  pub some : 0 < length letters
-  pub each : (i : ℕ) → i < length letters → LetterIsRight letters i
-
--- the step and the changes at an index
-abbrev pub step_at : List LeadParts → ℕ → Step
-step_at leads i = get_or (map (λ lead. lead.step) leads) i (record { method = 0; mark = 0 })
-
-abbrev pub changes_at : List LeadParts → ℕ → List Places
-changes_at leads i = get_or (map (λ lead. lead.changes) leads) i []
-
--- the plain mark comes first, and the others ascend by their bytes
-abbrev pub IsNextMark : ℕ → ℕ → Type 0
-IsNextMark before mark = (mark ≢ plain) × ((before ≡ plain) ⊎ (before < mark))
-
--- a step follows another: of the same method with a later mark, or the next method's plain lead
-abbrev pub IsNextStep : Step → Step → Type 0
-IsNextStep before step = ((step.method ≡ before.method) × IsNextMark before.mark step.mark) ⊎ ((step.method ≡ before.method + 1) × (step.mark ≡ plain))
-
--- the step at an index: the first method's plain lead, and later one that follows the one before
-pub record StepIsRight (leads : List LeadParts) (i : ℕ) : Type 0 where
-  pub first : i ≡ 0 → ((step_at leads i).method ≡ 0) × ((step_at leads i).mark ≡ plain)
-  pub later : 0 < i → IsNextStep (step_at leads (i - 1)) (step_at leads i)
-
--- the lead at an index: 1 to 128 changes of the stage, a mark `a` to `z`, and the next step of a method that there is
-pub record LeadIsRight (stage methods : ℕ) (leads : List LeadParts) (i : ℕ) : Type 0 where
-  pub some : 1 ≤ length (changes_at leads i)
-  pub few : length (changes_at leads i) ≤ 128
-  pub staged : All (λ change. change.stage ≡ stage) (changes_at leads i)
-  pub from : 97 ≤ (step_at leads i).mark
-  pub to : (step_at leads i).mark ≤ 122
-  pub known : (step_at leads i).method < methods
-  pub next : StepIsRight leads i
-
-pub record LeadsAreRight (stage methods : ℕ) (leads : List LeadParts) : Type 0 where
-  pub some : 0 < length leads
-  pub each : (i : ℕ) → i < length leads → LeadIsRight stage methods leads i
-  pub led : (method : ℕ) → method < methods → (i : ℕ) × (i < length leads) × ((step_at leads i).method ≡ method)
-
--- two numbers from `least` to 12,000, in order
-pub record LimitsAreRight (least low high : ℤ) : Type 0 where
-  pub from : least ≤ℤ low
-  pub order : low ≤ℤ high
-  pub to : high ≤ℤ pos 12000
-
--- a count at an index: one of the first sixteen, of a mark that some lead has
-pub record CountIsRight (leads : List LeadParts) (i : ℕ) (count : Count) : Type 0 where
-  pub few : i < 16
-  pub known : (k : ℕ) × (k < length leads) × ((step_at leads k).mark ≡ count.mark)
-  pub limits : LimitsAreRight (pos 0) count.min count.max
-
-abbrev pub count_at : List Count → ℕ → Count
-count_at counts i = get_or counts i (record { mark = 0; min = pos 0; max = pos 0 })
-
--- a method count at an index: one of the first sixteen, of a letter that some method has
-pub record MethodCountIsRight (letters : List ℕ) (i : ℕ) (count : MethodCount) : Type 0 where
-  pub few : i < 16
-  pub known : (k : ℕ) × (k < length letters) × (get_or letters k 0 ≡ count.letter)
-  pub limits : LimitsAreRight (pos 0) count.min count.max
-
-abbrev pub method_count_at : List MethodCount → ℕ → MethodCount
-method_count_at counts i = get_or counts i (record { letter = 0; min = pos 0; max = pos 0 })
-
--- the bell that a cell names
-abbrev pub bell_named : Cell → Option ℕ
-bell_named (cell.Bell b) = Some b
-bell_named cell.Any = None
-bell_named cell.Run = None
-
--- the cell stands for any number of bells
-abbrev pub is_run : Cell → Bool
-is_run (cell.Bell b) = false
-is_run cell.Any = false
-is_run cell.Run = true
-
-abbrev pub cell_at : List Cell → ℕ → Cell
-cell_at cells i = get_or cells i cell.Any
-
--- with no run there are as many cells as bells, and with one no more others than bells
-abbrev pub FitsStage : ℕ → List Cell → Type 0
-FitsStage stage cells = ((count_by is_run cells ≡ 0) × (length cells ≡ stage)) ⊎ ((count_by is_run cells ≡ 1) × (length cells ≤ stage + 1))
-
--- the cells of a pattern: as many as the stage takes, with bells of the stage, none named twice
-pub record CellsAreRight (stage : ℕ) (cells : List Cell) : Type 0 where
-  pub size : FitsStage stage cells
-  pub bells : (k : ℕ) → k < length cells → IfSome (bell_named (cell_at cells k)) (λ b. b ≤ stage)
-  pub once : (j k b : ℕ) → j < k → k < length cells → bell_named (cell_at cells j) ≡ Some b → bell_named (cell_at cells k) ≢ Some b
-
--- a pattern at an index: one of the first thirty-two
-pub record PatternIsRight (stage i : ℕ) (pattern : PatternParts) : Type 0 where
-  pub few : i < 32
-  pub cells : CellsAreRight stage pattern.cells
-  pub limits : LimitsAreRight (pos 0) pattern.min pattern.max
-
-abbrev pub pattern_at : List PatternParts → ℕ → PatternParts
-pattern_at patterns i = get_or patterns i (record { cells = []; min = pos 0; max = pos 0 })
-
-abbrev pub ComIsRight : Option Com → Type 0
-ComIsRight None = Unit {0}
-ComIsRight (Some limits) = LimitsAreRight (pos 0) limits.min limits.max
-
--- what every problem keeps
+-- 3 to 16 bells, and all checks hold
 pub record IsSound (p : ProblemParts) : Type 0 where
-  pub letters : LettersAreRight p.letters
-  pub leads : LeadsAreRight p.stage (length p.letters) p.leads
-  pub few : length p.leads ≤ 24
-  pub range : LimitsAreRight (pos 1) p.query.min p.query.max
-  pub shallow : cap p / shortest p ≤ 1024
-  pub parts_from : pos 1 ≤ℤ p.query.parts
-  pub parts_to : p.query.parts ≤ℤ pos 64
-  pub counts : (i : ℕ) → i < length p.query.counts → CountIsRight p.leads i (count_at p.query.counts i)
-  pub method_counts : (i : ℕ) → i < length p.query.method_counts → MethodCountIsRight p.letters i (method_count_at p.query.method_counts i)
-  pub patterns : (i : ℕ) → i < length p.query.patterns → PatternIsRight p.stage i (pattern_at p.query.patterns i)
-  pub limits : ComIsRight p.query.com
+  pub stage_from : 3 ≤ p.stage
+  pub stage_to : p.stage ≤ 16
+  pub checks : AllHold (checks p)
 
--- a lead of the list, by its parts
-pub step_at_is : (leads : List LeadParts) (i : ℕ) (lead : LeadParts) → i < length leads → lead ≡ get_or leads i lead → lead.step ≡ step_at leads i
-step_at_is leads i lead h e = ap (λ l. l.step) e ∙ sym (get_or-map (λ l. l.step) leads i lead (record { method = 0; mark = 0 }) h)
+-- a call answers for all of them, where the stage is from 3 to 16
+abbrev pub IsChecked : {X : Type 0} → ProblemParts → Result X PartFault → Type 0
+IsChecked p result = MatchResult result (λ _. IsSound p) (IsPartFault p)
 
-pub changes_at_is : (leads : List LeadParts) (i : ℕ) (lead : LeadParts) → i < length leads → lead ≡ get_or leads i lead → lead.changes ≡ changes_at leads i
-changes_at_is leads i lead h e = ap (λ l. l.changes) e ∙ sym (get_or-map (λ l. l.changes) leads i lead [] h)
+-- what is sound, check by check
+pub sound_letters : (p : ProblemParts) → IsSound p → LettersAreRight p.letters
+sound_letters p sound = sound.checks.0
+
+pub sound_leads : (p : ProblemParts) → IsSound p → LeadsAreRight p.stage (length p.letters) p.leads
+sound_leads p sound = sound.checks.1.0
+
+pub sound_steps : (p : ProblemParts) → IsSound p → length p.leads ≤ most_steps
+sound_steps p sound = sound.checks.1.1.0
+
+pub sound_range : (p : ProblemParts) → IsSound p → LimitsAreRight (pos 1) p.query.min p.query.max
+sound_range p sound = sound.checks.1.1.1.0
+
+pub sound_depth : (p : ProblemParts) → IsSound p → cap p / shortest p ≤ most_leads
+sound_depth p sound = sound.checks.1.1.1.1.0
+
+pub sound_parts : (p : ProblemParts) → IsSound p → (pos 1 ≤ℤ p.query.parts) × (p.query.parts ≤ℤ pos most_parts)
+sound_parts p sound = sound.checks.1.1.1.1.1.0

@@ -1,7 +1,9 @@
 //! Callings, as lists of step numbers.
 
 ghost use Rattle.std.specs.Prelude.{◌≡◌, ◌↔◌, ◌≤◌, length, IsOk, IfOk, IfErr, vec_len};
+ghost use Rattle.cr_model.specs.Limits.{most_leads};
 
+use crate::limits::MOST_LEADS;
 use cr_row::NoMemory;
 use std::alloc::Global;
 use std::marker::Model;
@@ -14,22 +16,23 @@ pub struct Calling {
 
 impl Model for Calling {
     ghost use Rattle.std.specs.Prelude.{ℕ, ◌≤◌, List, length};
+    ghost use Rattle.cr_model.specs.Limits.{most_leads};
 
     ghost Value = { List ℕ };
 
     ghost view = { λ calling. calling.steps.items };
 
-    ghost invariant = { λ calling. length calling.steps.items ≤ 1024 };
+    ghost invariant = { λ calling. length calling.steps.items ≤ most_leads };
 }
 
 impl Calling {
     /// The steps as a calling. The list comes back exactly where it has more than 1,024 steps.
     pub fn new(steps: Vec<u8>) -> Result<Calling, Vec<u8>>
-        ensures accepts { IsOk result ↔ (vec_len steps ≤ 1024) }
+        ensures accepts { IsOk result ↔ (vec_len steps ≤ most_leads) }
         ensures is { IfOk result (λ calling. calling ≡ steps.items) }
         ensures back { IfErr result (λ list. list.items ≡ steps.items) }
     {
-        if steps.len() <= 1024 {
+        if steps.len() <= MOST_LEADS {
             Ok(Calling { steps })
         } else {
             Err(steps)
@@ -39,7 +42,7 @@ impl Calling {
     /// Its step numbers.
     pub fn steps(&self) -> &[u8]
         ensures is { result.now ≡ self.now }
-        ensures few { length self.now ≤ 1024 }
+        ensures few { length self.now ≤ most_leads }
     {
         self.steps.as_slice()
     }

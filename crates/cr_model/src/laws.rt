@@ -13,6 +13,11 @@ ghost use Rattle.cr_model.specs.Faults.{IsPartFault};
 ghost use Rattle.cr_model.specs.declared.fault.PartFault.{PartFault};
 ghost use Rattle.cr_model.specs.Examples.{minimus, plain_course};
 
+use cr_row::{
+    change_after_product, change_of_a_row, inverse_on_one_side, product_associates,
+    rounds_is_neutral,
+};
+
 /// What was found and some nodes have one book alone.
 pub fn book_is_unique()
     ensures { (p : ProblemParts) (found nodes book other : List (List ℕ)) → IsBook p found nodes book → IsBook p found nodes other → book ≡ other }
@@ -57,18 +62,33 @@ pub fn ringing_on()
 /// Changes rung from a row give the products of that row with the rows that they give from rounds.
 pub fn a_lead_rung_from_a_row()
     ensures { (stage : ℕ) (row : List ℕ) (changes : List Places) → length row ≡ stage → rows_from row changes ≡ map (product row) (rows_from (rounds stage) changes) }
-{}
+{
+    change_after_product();
+    rounds_is_neutral();
+}
 
 /// Of two callings joined, the second one's rows and its head are multiplied by the first one's head.
 pub fn joined_callings_multiply()
     ensures rows { (p : ProblemParts) (calling more : List ℕ) → rows_of p (calling ++ more) ≡ rows_of p calling ++ map (product (head_of p calling)) (rows_of p more) }
     ensures head { (p : ProblemParts) (calling more : List ℕ) → head_of p (calling ++ more) ≡ product (head_of p calling) (head_of p more) }
-{}
+{
+    change_after_product();
+    change_of_a_row();
+    inverse_on_one_side();
+    product_associates();
+    rounds_is_neutral();
+}
 
 /// A rotation of a true touch is a true touch of its length.
 pub fn a_rotation_of_a_true_touch_is_one()
     ensures { (p : ProblemParts) (calling other : List ℕ) → TrueTouch p calling → IsRotation calling other → TrueTouch p other × (length_of p other ≡ length_of p calling) }
-{}
+{
+    change_after_product();
+    change_of_a_row();
+    inverse_on_one_side();
+    product_associates();
+    rounds_is_neutral();
+}
 
 /// A node begins some steps exactly where they are the node and some more.
 pub fn prefixes()

@@ -4,11 +4,18 @@
 pub mod calling;
 mod checks;
 mod copies;
+mod count_checks;
 pub mod fault;
 pub mod file_fault;
+mod given;
 pub mod laws;
 pub mod lead;
+mod lead_checks;
+mod lengths;
+mod letter_checks;
+pub mod limits;
 pub mod notation;
+mod pattern_checks;
 pub mod problem;
 pub mod query;
 

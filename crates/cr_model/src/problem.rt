@@ -1,18 +1,19 @@
 //! Problems: what to search.
 
-ghost use Rattle.std.specs.Prelude.{◌≡◌, ℕ, ◌+◌, ◌*◌, ◌/◌, ◌<◌, ◌≤◌, ◌↔◌, ℤ, pos, ◌≤ℤ◌, List, length, get_or, map, All, IsTrue, IfOk, IfErr, MatchResult, min, nat_abs, sum_by};
+ghost use Rattle.std.specs.Prelude.{◌≡◌, ℕ, ◌/◌, ◌<◌, ◌≤◌, ◌↔◌, length, All, IsTrue, IsOk, IfOk, IfErr};
 ghost use Rattle.cr_model.specs.Problems.{parts_from};
-ghost use Rattle.cr_model.specs.Callings.{shortest, length_of, HasSteps, change_count};
+ghost use Rattle.cr_model.specs.Callings.{shortest, length_of, HasSteps};
 ghost use Rattle.cr_model.specs.Queries.{cap, part_cap};
 ghost use Rattle.cr_model.specs.Sound.{IsSound};
-ghost use Rattle.cr_model.specs.Faults.{IsPartFault, LettersPass, LeadsPass, StepsPass, RangePasses, DepthPasses, PartsPass, CountsPass, MethodCountsPass, PatternsPass};
+ghost use Rattle.cr_model.specs.Faults.{IsPartFault};
 
 use crate::calling::Calling;
-use crate::checks::*;
-use crate::copies::{copy_leads, copy_query, patterns_of, same_leads, same_query};
-use crate::fault::{CountAt, PartFault};
+use crate::checks::check_all;
+use crate::copies::{copy_leads, copy_query, same_leads, same_query};
+use crate::fault::PartFault;
 use crate::lead::Lead;
-use crate::query::{Count, MethodCount, Query};
+use crate::lengths::{greatest_length, shortest_length, total_length};
+use crate::query::Query;
 use cr_row::{NoMemory, Stage};
 use std::alloc::Global;
 use std::marker::Model;
@@ -37,161 +38,7 @@ impl Model for Problem {
     ghost invariant = { λ p. IsSound (parts_from p.stage p.letters.items p.leads.items p.query) };
 }
 
-fn check_letters(
-    stage: Stage,
-    letters: &[u8],
-    leads: &[Lead],
-    query: &Query,
-) -> Result<(), PartFault>
-    ensures { MatchResult result (λ _. LettersPass (parts_from stage letters.now leads.now query.now)) (IsPartFault (parts_from stage letters.now leads.now query.now)) }
-{
-    match wrong_letter(letters) {
-        Some(index) => Err(PartFault::Letters(index)),
-        None => Ok(()),
-    }
-}
-
-fn check_leads(stage: Stage, letters: &[u8], leads: &[Lead], query: &Query) -> Result<(), PartFault>
-    ensures { MatchResult result (λ _. LeadsPass (parts_from stage letters.now leads.now query.now)) (IsPartFault (parts_from stage letters.now leads.now query.now)) }
-{
-    check_letters(stage, letters, leads, query)?;
-    match wrong_lead(stage, letters.len(), leads) {
-        Some(index) => Err(PartFault::Leads(index)),
-        None => Ok(()),
-    }
-}
-
-fn check_steps(stage: Stage, letters: &[u8], leads: &[Lead], query: &Query) -> Result<(), PartFault>
-    ensures { MatchResult result (λ _. StepsPass (parts_from stage letters.now leads.now query.now)) (IsPartFault (parts_from stage letters.now leads.now query.now)) }
-{
-    check_leads(stage, letters, leads, query)?;
-    if leads.len() <= 24 {
-        Ok(())
-    } else {
-        Err(PartFault::Steps(leads.len() as u64))
-    }
-}
-
-fn check_range(stage: Stage, letters: &[u8], leads: &[Lead], query: &Query) -> Result<(), PartFault>
-    ensures { MatchResult result (λ _. RangePasses (parts_from stage letters.now leads.now query.now)) (IsPartFault (parts_from stage letters.now leads.now query.now)) }
-{
-    check_steps(stage, letters, leads, query)?;
-    if limits_are_right(1, query.min, query.max) {
-        Ok(())
-    } else {
-        Err(PartFault::Range(query.min, query.max))
-    }
-}
-
-fn check_depth(stage: Stage, letters: &[u8], leads: &[Lead], query: &Query) -> Result<(), PartFault>
-    ensures { MatchResult result (λ _. DepthPasses (parts_from stage letters.now leads.now query.now)) (IsPartFault (parts_from stage letters.now leads.now query.now)) }
-{
-    check_range(stage, letters, leads, query)?;
-    let depth = greatest_length(stage, query.max) / shortest_length(leads);
-    if depth <= 1024 {
-        Ok(())
-    } else {
-        Err(PartFault::Deep(depth))
-    }
-}
-
-fn check_parts(stage: Stage, letters: &[u8], leads: &[Lead], query: &Query) -> Result<(), PartFault>
-    ensures { MatchResult result (λ _. PartsPass (parts_from stage letters.now leads.now query.now)) (IsPartFault (parts_from stage letters.now leads.now query.now)) }
-{
-    check_depth(stage, letters, leads, query)?;
-    if 1 <= query.parts && query.parts <= 64 {
-        Ok(())
-    } else {
-        Err(PartFault::Parts(query.parts))
-    }
-}
-
-fn counts_of(query: &Query) -> &[Count]
-    ensures { result.now ≡ query.now.counts }
-{
-    query.counts.as_slice()
-}
-
-fn method_counts_of(query: &Query) -> &[MethodCount]
-    ensures { result.now ≡ query.now.method_counts }
-{
-    query.method_counts.as_slice()
-}
-
-fn check_counts(
-    stage: Stage,
-    letters: &[u8],
-    leads: &[Lead],
-    query: &Query,
-) -> Result<(), PartFault>
-    ensures { MatchResult result (λ _. CountsPass (parts_from stage letters.now leads.now query.now)) (IsPartFault (parts_from stage letters.now leads.now query.now)) }
-{
-    check_parts(stage, letters, leads, query)?;
-    match wrong_count(leads, counts_of(query)) {
-        Some(index) => Err(PartFault::Count(CountAt::Mark(index))),
-        None => Ok(()),
-    }
-}
-
-fn check_method_counts(
-    stage: Stage,
-    letters: &[u8],
-    leads: &[Lead],
-    query: &Query,
-) -> Result<(), PartFault>
-    ensures { MatchResult result (λ _. MethodCountsPass (parts_from stage letters.now leads.now query.now)) (IsPartFault (parts_from stage letters.now leads.now query.now)) }
-{
-    check_counts(stage, letters, leads, query)?;
-    match wrong_method_count(letters, method_counts_of(query)) {
-        Some(index) => Err(PartFault::Count(CountAt::Method(index))),
-        None => Ok(()),
-    }
-}
-
-fn check_patterns(
-    stage: Stage,
-    letters: &[u8],
-    leads: &[Lead],
-    query: &Query,
-) -> Result<(), PartFault>
-    ensures { MatchResult result (λ _. PatternsPass (parts_from stage letters.now leads.now query.now)) (IsPartFault (parts_from stage letters.now leads.now query.now)) }
-{
-    check_method_counts(stage, letters, leads, query)?;
-    match wrong_pattern(stage, patterns_of(query)) {
-        Some(index) => Err(PartFault::Pattern(index)),
-        None => Ok(()),
-    }
-}
-
-fn check_all(stage: Stage, letters: &[u8], leads: &[Lead], query: &Query) -> Result<(), PartFault>
-    ensures { MatchResult result (λ _. IsSound (parts_from stage letters.now leads.now query.now)) (IsPartFault (parts_from stage letters.now leads.now query.now)) }
-{
-    check_patterns(stage, letters, leads, query)?;
-    if com_is_right(query.com) {
-        Ok(())
-    } else {
-        Err(PartFault::Com)
-    }
-}
-
-// The number of changes of these steps.
-fn total_length(leads: &[Lead], steps: &[u8]) -> u64
-    requires few { length steps.now ≤ 1024 }
-    requires known { All (λ step. step < length leads.now) steps.now }
-    requires short { (i : ℕ) → i < length leads.now → change_count leads.now i ≤ 128 }
-    ensures { result ≡ sum_by (change_count leads.now) steps.now }
-{
-    let mut total = 0;
-    for step in steps {
-        total += changes_of(leads, usize::from(*step)) as u64;
-    }
-    total
-}
-
 impl Problem {
-    ghost use Rattle.cr_model.specs.Sound.{IsSound};
-    ghost use Rattle.cr_model.specs.Faults.{IsPartFault};
-
     /// The problem of these parts, or the first check that does not hold. It takes no memory.
     pub fn new(
         stage: Stage,
@@ -200,16 +47,18 @@ impl Problem {
         query: Query,
     ) -> Result<Problem, PartFault>
         ensures is { IfOk result (λ p. p ≡ parts_from stage letters.items leads.items query) }
-        ensures sound { IfOk result (λ p. IsSound p) }
+        ensures accepts { IsOk result ↔ IsSound (parts_from stage letters.items leads.items query) }
         ensures fault { IfErr result (IsPartFault (parts_from stage letters.items leads.items query)) }
     {
-        check_all(stage, &letters, &leads, &query)?;
-        Ok(Problem {
-            stage,
-            letters,
-            leads,
-            query,
-        })
+        match check_all(stage, &letters, &leads, &query) {
+            Ok(()) => Ok(Problem {
+                stage,
+                letters,
+                leads,
+                query,
+            }),
+            Err(fault) => Err(fault),
+        }
     }
 
     /// The same problem again.

@@ -3,19 +3,18 @@ use Rattle.std.proofs.Common.{◌≡◌, ℕ, ◌+◌, ◌-◌, ◌%◌, ◌<◌
 use Rattle.std.specs.List.{AllByRecursion}
 use Rattle.std.proofs.lemmas.List.{append-nil}
 use Rattle.std.proofs.lemmas.List.Elements.{recursion_from_All}
-use Rattle.cr_row.specs.Rows.{Places, IsNext, IsChange}
+use Rattle.cr_row.specs.Rows.{Places, IsNext, IsChain, IsChange}
 use Rattle.cr_row.specs.Symbols.{symbol_of}
 use Rattle.cr_model.specs.Notation.{Sign, place, is_blank, sign_of, signs_of, Item, crossing, group, item_signs, IsNamed, IsItem, IsBetween, Follow, IsBlock, first_implied, last_implied, change_of, changes_of_items, Spells}
 use Rattle.cr_model.specs.NotationTexts.{places_text, dot_between, canonical_text}
 use Rattle.cr_notation.proofs.Named.{even_test}
 use Rattle.cr_notation.proofs.Signs.{symbol_sign}
-use Rattle.cr_notation.proofs.Chains.{Chain, chain_from_change}
 use Rattle.cr_notation.proofs.Written.{chain_low}
 
 -- a change of this stage
 pub record IsOf (n : ℕ) (change : Places) : Type 0 where
   pub stage : change.stage ≡ n
-  pub chain : Chain n 0 change.made
+  pub chain : IsChain n 0 change.made
 
 abbrev item_of : List ℕ → Item
 item_of [] = crossing
@@ -23,7 +22,7 @@ item_of (p ∷ ps) = group (p ∷ ps)
 
 -- ---- the items of changes
 
-chain_named : (n p : ℕ) (ps : List ℕ) → Chain n p ps → IsNamed n (p ∷ ps) × (last_implied n (p ∷ ps) ≡ [])
+chain_named : (n p : ℕ) (ps : List ℕ) → IsChain n p ps → IsNamed n (p ∷ ps) × (last_implied n (p ∷ ps) ≡ [])
 chain_named n p [] h =
     let odd : (n + 1 - p) % 2 ≡ 1 = h.1 in
     let low : p < n + 1 = h.0 in
@@ -47,11 +46,11 @@ none_first n p ps h =
     let even : (p - 1) % 2 ≡ 0 = omega arith in
     ap (λ b. cond b (1 ∷ []) []) (even_test (p - 1) even)
 
-item_fits : (n : ℕ) (made : List ℕ) → Chain n 0 made → IsItem n (item_of made)
+item_fits : (n : ℕ) (made : List ℕ) → IsChain n 0 made → IsItem n (item_of made)
 item_fits n [] h = let odd : (n + 1 - 0) % 2 ≡ 1 = h.1 in omega arith
 item_fits n (p ∷ ps) h = (chain_named n p ps h.1).0
 
-made_of : (n : ℕ) (made : List ℕ) → Chain n 0 made → change_of n (item_of made) ≡ record { stage = n; made = made }
+made_of : (n : ℕ) (made : List ℕ) → IsChain n 0 made → change_of n (item_of made) ≡ record { stage = n; made = made }
 made_of n [] h = refl
 made_of n (p ∷ ps) h =
     let named = chain_named n p ps h.1 in
@@ -76,7 +75,7 @@ signs_append (byte ∷ a) b = either (is_blank byte) (signs_append a b)
     either true same = same
     either false same = ap (λ signs. sign_of byte ∷ signs) same
 
-symbols_signs : (n before : ℕ) (ps : List ℕ) → n ≤ 16 → Chain n before ps → signs_of (map symbol_of ps) ≡ map place ps
+symbols_signs : (n before : ℕ) (ps : List ℕ) → n ≤ 16 → IsChain n before ps → signs_of (map symbol_of ps) ≡ map place ps
 symbols_signs n before [] few h = refl
 symbols_signs n before (p ∷ ps) few h =
     let up : before < p = h.0.0 in
@@ -85,7 +84,7 @@ symbols_signs n before (p ∷ ps) few h =
     ap (λ blank. cond blank (signs_of (map symbol_of ps)) (sign_of (symbol_of p) ∷ signs_of (map symbol_of ps))) known.0
     ∙ ap (λ sign. sign ∷ signs_of (map symbol_of ps)) known.1 ∙ ap (λ signs. place p ∷ signs) (symbols_signs n p ps few h.1)
 
-places_signs : (n : ℕ) (made : List ℕ) → n ≤ 16 → Chain n 0 made → signs_of (places_text made) ≡ item_signs (item_of made)
+places_signs : (n : ℕ) (made : List ℕ) → n ≤ 16 → IsChain n 0 made → signs_of (places_text made) ≡ item_signs (item_of made)
 places_signs n [] few h = refl
 places_signs n (p ∷ ps) few h = symbols_signs n 0 (p ∷ ps) few h
 
@@ -129,7 +128,7 @@ canonical_by n changes few some most h = record {
 }
 
 pub is_of : (n : ℕ) (change : Places) → change.stage ≡ n → IsChange change → IsOf n change
-is_of n change same h = record { stage = same; chain = subst (λ stage. Chain stage 0 change.made) same (chain_from_change change.stage change.made h) }
+is_of n change same h = record { stage = same; chain = subst (λ stage. IsChain stage 0 change.made) same h }
 
 pub canonical_spells : (n : ℕ) (changes : List Places) → n ≤ 16 → 1 ≤ length changes → length changes ≤ 128 → All (λ change. change.stage ≡ n) changes → All IsChange changes → Spells n (canonical_text changes) changes
 canonical_spells n changes few some most stages h = canonical_by n changes few some most (recursion_from_All (IsOf n) changes (λ k d low. is_of n (get_or changes k d) (stages k d low) (h k d low)))

@@ -7,7 +7,7 @@ use Rattle.std.proofs.lemmas.List.Elements.{All-from_recursion}
 use Rattle.cr_row.specs.Rows.{Places, IsChange}
 use Rattle.cr_row.specs.Symbols.{symbol_of}
 use Rattle.cr_model.specs.Notation.{Sign, cross, place, dot, comma, is_blank, is_cross, place_of, sign_of, signs_of, Item, crossing, group, item_signs, IsItem, Follow, IsBlock, change_of, changes_of_items, mirrored, StandsFor, Spells}
-use Rattle.cr_notation.proofs.Chains.{group_chain, change_from_chain, cross_chain}
+use Rattle.cr_notation.proofs.Chains.{group_chain, cross_chain}
 use Rattle.cr_notation.proofs.Canonical.{IsOf}
 
 -- ---- lists
@@ -88,7 +88,7 @@ stands_changes n text changes (inr p) =
     subst (AllByRecursion (IsOf n)) (sym p.7) (all_append (IsOf n) (mirrored (changes_of_items n p.0)) (mirrored (changes_of_items n p.1)) (all_mirrored (IsOf n) (changes_of_items n p.0) first) (all_mirrored (IsOf n) (changes_of_items n p.1) second))
 
 of_change : (n : ℕ) (change : Places) → IsOf n change → (change.stage ≡ n) × IsChange change
-of_change n change h = (h.stage, subst (λ stage. IsChange (record { stage = stage; made = change.made })) (sym h.stage) (change_from_chain n change.made h.chain))
+of_change n change h = (h.stage, subst (λ stage. IsChange (record { stage = stage; made = change.made })) (sym h.stage) h.chain)
 
 pub spelled_changes : (n : ℕ) (text : List ℕ) (changes : List Places) → Spells n text changes → All (λ change. (change.stage ≡ n) × IsChange change) changes
 spelled_changes n text changes h k d low = of_change n _ (All-from_recursion (IsOf n) changes (stands_changes n text changes h.stands) k d low)

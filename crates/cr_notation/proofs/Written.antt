@@ -4,14 +4,13 @@ use Rattle.std.specs.Prelude.{nat_eq, nat_lt}
 use Rattle.std.specs.List.{list_any}
 use Rattle.std.proofs.lemmas.List.{append-nil, drop_more, drop_all}
 use Rattle.std.proofs.lemmas.Bool.Decides.{nat_tests}
-use Rattle.cr_row.specs.Rows.{Places, IsChange}
+use Rattle.cr_row.specs.Rows.{Places, IsChain, IsChange}
 use Rattle.cr_row.specs.Symbols.{symbol_of}
 use Rattle.cr_model.specs.NotationTexts.{places_text, dot_between, canonical_text}
 use Rattle.cr_notation.specs.Writing.{has_places, dot_if, at_least, text_after}
-use Rattle.cr_notation.proofs.Chains.{Chain, chain_from_change}
 
 -- the last of a chain is at most the stage
-pub chain_low : (n before : ℕ) (ps : List ℕ) → Chain n before ps → before ≤ n
+pub chain_low : (n before : ℕ) (ps : List ℕ) → IsChain n before ps → before ≤ n
 chain_low n before [] h = omega arith
 chain_low n before (p ∷ ps) h = let low : p ≤ n = chain_low n p ps h.1 in omega arith
 
@@ -22,12 +21,12 @@ from_skipped : (p q : ℕ) (qs : List ℕ) → nat_lt q p ≡ true → at_least 
 from_skipped p q qs h = ap (λ b. cond b (at_least p qs) (q ∷ qs)) h
 
 -- all of a chain, where it starts no lower
-all_kept : (n before p : ℕ) (ps : List ℕ) → Chain n before ps → p ≤ before + 1 → at_least p ps ≡ ps
+all_kept : (n before p : ℕ) (ps : List ℕ) → IsChain n before ps → p ≤ before + 1 → at_least p ps ≡ ps
 all_kept n before p [] h low = refl
 all_kept n before p (q ∷ qs) h low = let up : nat_lt q p ≡ false = (let next : before < q = h.0.0 in grind (arith, nat_tests)) in from_kept p q qs up
 
 -- nothing above the stage
-none_kept : (n before p : ℕ) (ps : List ℕ) → Chain n before ps → n < p → at_least p ps ≡ []
+none_kept : (n before p : ℕ) (ps : List ℕ) → IsChain n before ps → n < p → at_least p ps ≡ []
 none_kept n before p [] h high = refl
 none_kept n before p (q ∷ qs) h high =
     let low : q ≤ n = chain_low n q qs h.1 in
@@ -35,7 +34,7 @@ none_kept n before p (q ∷ qs) h high =
     from_skipped p q qs below ∙ none_kept n q p qs h.1 high
 
 -- a place of a chain is above what it starts from
-above_start : (n before p : ℕ) (ps : List ℕ) → Chain n before ps → list_any (nat_eq p) ps ≡ true → before < p
+above_start : (n before p : ℕ) (ps : List ℕ) → IsChain n before ps → list_any (nat_eq p) ps ≡ true → before < p
 above_start n before p [] h e = absurd cc
 above_start n before p (q ∷ qs) h e = either (nat_eq p q) refl e (λ later. above_start n q p qs h.1 later)
   where
@@ -43,7 +42,7 @@ above_start n before p (q ∷ qs) h e = either (nat_eq p q) refl e (λ later. ab
     either true is any later = let up : before < q = h.0.0 in grind (arith, nat_tests)
     either false is any later = let up : before < q = h.0.0 in let further : q < p = later any in omega arith
 
-place_kept : (n before p : ℕ) (ps : List ℕ) → Chain n before ps → list_any (nat_eq p) ps ≡ true → at_least p ps ≡ p ∷ at_least (p + 1) ps
+place_kept : (n before p : ℕ) (ps : List ℕ) → IsChain n before ps → list_any (nat_eq p) ps ≡ true → at_least p ps ≡ p ∷ at_least (p + 1) ps
 place_kept n before p [] h e = absurd cc
 place_kept n before p (q ∷ qs) h e = either (nat_eq p q) refl e (λ later. place_kept n q p qs h.1 later)
   where
@@ -75,10 +74,10 @@ place_left_out p (q ∷ qs) e = either (nat_eq p q) (nat_lt q p) refl refl e (λ
 -- ---- a change's places, one after another
 
 pub first_of_change : (n : ℕ) (made : List ℕ) → IsChange (record { stage = n; made = made }) → at_least 1 made ≡ made
-first_of_change n made h = all_kept n 0 1 made (chain_from_change n made h) (omega arith)
+first_of_change n made h = all_kept n 0 1 made h (omega arith)
 
 pub last_of_change : (n p : ℕ) (made : List ℕ) → IsChange (record { stage = n; made = made }) → n < p → at_least p made ≡ []
-last_of_change n p made h high = none_kept n 0 p made (chain_from_change n made h) high
+last_of_change n p made h high = none_kept n 0 p made h high
 
 pub some_places : (p : ℕ) (made : List ℕ) → list_any (nat_eq p) made ≡ true → has_places made ≡ true
 some_places p [] e = absurd cc
@@ -89,7 +88,7 @@ no_places made e = ap has_places e
 
 pub place_written : (n p : ℕ) (made bytes old : List ℕ) → IsChange (record { stage = n; made = made }) → list_any (nat_eq p) made ≡ true → bytes ++ map symbol_of (at_least p made) ≡ old → (bytes ++ symbol_of p ∷ []) ++ map symbol_of (at_least (p + 1) made) ≡ old
 place_written n p made bytes old h e so_far =
-    append_assoc bytes (symbol_of p ∷ []) (map symbol_of (at_least (p + 1) made)) ∙ ap (λ ps. bytes ++ map symbol_of ps) (sym (place_kept n 0 p made (chain_from_change n made h) e)) ∙ so_far
+    append_assoc bytes (symbol_of p ∷ []) (map symbol_of (at_least (p + 1) made)) ∙ ap (λ ps. bytes ++ map symbol_of ps) (sym (place_kept n 0 p made h e)) ∙ so_far
 
 pub place_not_written : (p : ℕ) (made bytes old : List ℕ) → list_any (nat_eq p) made ≡ false → bytes ++ map symbol_of (at_least p made) ≡ old → bytes ++ map symbol_of (at_least (p + 1) made) ≡ old
 place_not_written p made bytes old e so_far = ap (λ ps. bytes ++ map symbol_of ps) (sym (place_left_out p made e)) ∙ so_far

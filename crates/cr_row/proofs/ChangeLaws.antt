@@ -7,8 +7,8 @@ use Rattle.std.proofs.lemmas.Map.Keys.{IsDistinct-from_apart, IsDistinct-IsPermu
 use Rattle.std.proofs.lemmas.Bool.Decides.{nat_tests}
 use Rattle.std.proofs.lemmas.List.{get_or_default}
 use Rattle.std.proofs.lemmas.List.Sorted.{IsPermutation-refl, IsPermutation-cons, IsPermutation-trans, IsPermutation-swap, All-permutation, Contains-permutation, length_permutation}
-use Rattle.cr_row.specs.Rows.{Places, IsRow, IsChange, product, changed}
-use Rattle.cr_row.proofs.Masking.{Chained, Chained-below, chained, skipped, agree, none_from}
+use Rattle.cr_row.specs.Rows.{Places, IsRow, IsChain, IsChange, product, changed}
+use Rattle.cr_row.proofs.Masking.{chain_low, skipped, agree, none_from}
 
 -- the bells only change places
 IsPermutation-changed : (made : List ℕ) (p : ℕ) (row : List ℕ) → IsPermutation row (changed made p row)
@@ -128,28 +128,28 @@ changed_below made p m (x ∷ y ∷ xs) h =
     λ i. cond (test i) (x ∷ one i) (y ∷ x ∷ two i)
 
 -- a place of a chain is above its start
-in_chain : (b end q : ℕ) (made : List ℕ) → Chained b made end → list_any (nat_eq q) made ≡ true → b < q
-in_chain b end q [] h is = absurd (false≢true is)
-in_chain b end q (m ∷ ms) h is = elim (cases_eq q m) [
+in_chain : (b n q : ℕ) (made : List ℕ) → IsChain n b made → list_any (nat_eq q) made ≡ true → b < q
+in_chain b n q [] h is = absurd (false≢true is)
+in_chain b n q (m ∷ ms) h is = elim (cases_eq q m) [
   | inl here ↦ omega (arith, h.0.0)
-  | inr later ↦ omega (arith, h.0.0, in_chain m end q ms h.1 (sym (skipped q m ms later) ∙ is))
+  | inr later ↦ omega (arith, h.0.0, in_chain m n q ms h.1 (sym (skipped q m ms later) ∙ is))
 ]
 
-not_below : (m end q : ℕ) (ms : List ℕ) → Chained m ms end → list_any (nat_eq q) (m ∷ ms) ≡ true → m ≤ q
-not_below m end q ms h is = elim (cases_eq q m) [
+not_below : (m n q : ℕ) (ms : List ℕ) → IsChain n m ms → list_any (nat_eq q) (m ∷ ms) ≡ true → m ≤ q
+not_below m n q ms h is = elim (cases_eq q m) [
   | inl here ↦ omega arith
-  | inr later ↦ omega (arith, in_chain m end q ms h (sym (skipped q m ms later) ∙ is))
+  | inr later ↦ omega (arith, in_chain m n q ms h (sym (skipped q m ms later) ∙ is))
 ]
 
 same_bell : (xs ys : List ℕ) (i j d : ℕ) → i ≡ j → get_or xs j d ≡ get_or ys j d → get_or xs i d ≡ get_or ys i d
 same_bell xs ys i j d e h = ap (λ k. get_or xs k d) e ∙ h ∙ ap (λ k. get_or ys k d) (sym e)
 
 -- the bell at a place made stays
-pub changed_stays : (b p end q : ℕ) (made row : List ℕ) → p ≡ b + 1 → end ≡ p + length row → Chained b made end → list_any (nat_eq q) made ≡ true → get_or (changed made p row) (q - p) 0 ≡ get_or row (q - p) 0
-changed_stays b p end q made [] at to h is = refl
-changed_stays b p end q made (x ∷ []) at to h is = refl
-changed_stays b p end q [] (x ∷ y ∷ xs) at to h is = absurd (false≢true is)
-changed_stays b p end q (m ∷ ms) (x ∷ y ∷ xs) at to h is = elim (cases_eq p m) [
+pub changed_stays : (b p n q : ℕ) (made row : List ℕ) → p ≡ b + 1 → n + 1 ≡ p + length row → IsChain n b made → list_any (nat_eq q) made ≡ true → get_or (changed made p row) (q - p) 0 ≡ get_or row (q - p) 0
+changed_stays b p n q made [] at to h is = refl
+changed_stays b p n q made (x ∷ []) at to h is = refl
+changed_stays b p n q [] (x ∷ y ∷ xs) at to h is = absurd (false≢true is)
+changed_stays b p n q (m ∷ ms) (x ∷ y ∷ xs) at to h is = elim (cases_eq p m) [
   | inl here ↦
       let step : changed (m ∷ ms) p (x ∷ y ∷ xs) ≡ x ∷ changed ms (p + 1) (y ∷ xs) =
       at_stay (m ∷ ms) p x (y ∷ xs) (ap (λ t. t || list_any (nat_eq p) ms) (agree p m here)) ∙ ap (λ l. x ∷ l) (changed_below ms (p + 1) m (y ∷ xs) (omega arith)) in
@@ -157,22 +157,22 @@ changed_stays b p end q (m ∷ ms) (x ∷ y ∷ xs) at to h is = elim (cases_eq 
         | inl first ↦ same_bell (x ∷ changed ms (p + 1) (y ∷ xs)) (x ∷ y ∷ xs) (q - p) 0 0 (omega arith) refl
         | inr later ↦
             let rest : list_any (nat_eq q) ms ≡ true = sym (skipped q m ms later) ∙ is in
-            same_bell (x ∷ changed ms (p + 1) (y ∷ xs)) (x ∷ y ∷ xs) (q - p) (suc (q - (p + 1))) 0 (omega (arith, in_chain m end q ms h.1 rest))
-            (changed_stays m (p + 1) end q ms (y ∷ xs) (omega arith) (omega arith) h.1 rest)
+            same_bell (x ∷ changed ms (p + 1) (y ∷ xs)) (x ∷ y ∷ xs) (q - p) (suc (q - (p + 1))) 0 (omega (arith, in_chain m n q ms h.1 rest))
+            (changed_stays m (p + 1) n q ms (y ∷ xs) (omega arith) (omega arith) h.1 rest)
       ]
   | inr other ↦
       let above : p + 2 ≤ m = omega (arith, h.0.0, h.0.1) in
-      let none : list_any (nat_eq p) (m ∷ ms) ≡ false = skipped p m ms other ∙ none_from p m end ms (omega arith) h.1 in
-      let high : m ≤ q = not_below m end q ms h.1 is in
-      let start : Chained (b + 2) (m ∷ ms) end = ((omega (arith, h.0.0, h.0.1), omega (arith, h.0.0, h.0.1)), h.1) in
+      let none : list_any (nat_eq p) (m ∷ ms) ≡ false = skipped p m ms other ∙ none_from p m n ms (omega arith) h.1 in
+      let high : m ≤ q = not_below m n q ms h.1 is in
+      let start : IsChain n (b + 2) (m ∷ ms) = ((omega (arith, h.0.0, h.0.1), omega (arith, h.0.0, h.0.1)), h.1) in
       ap (λ l. get_or l (q - p) 0) (at_swap (m ∷ ms) p x y xs none)
       ∙ same_bell (y ∷ x ∷ changed (m ∷ ms) (p + 2) xs) (x ∷ y ∷ xs) (q - p) (suc (suc (q - (p + 2)))) 0 (omega arith)
-      (changed_stays (b + 2) (p + 2) end q (m ∷ ms) xs (omega arith) (omega arith) start is)
+      (changed_stays (b + 2) (p + 2) n q (m ∷ ms) xs (omega arith) (omega arith) start is)
 ]
 
 -- a place made stands where it stood
 pub after_stays : (c : Places) (r : List ℕ) (p : ℕ) → IsChange c → length r ≡ c.stage → list_any (nat_eq p) c.made ≡ true → get_or (changed c.made 1 r) (p - 1) 0 ≡ get_or r (p - 1) 0
-after_stays c r p change long is = changed_stays 0 1 (c.stage + 1) p c.made r refl (omega arith) (chained 0 (c.stage + 1) c.made change) is
+after_stays c r p change long is = changed_stays 0 1 c.stage p c.made r refl (omega arith) change is
 
 -- a change of a product
 pub changed-product : (h made : List ℕ) (p : ℕ) (r : List ℕ) → changed made p (product h r) ≡ product h (changed made p r)
@@ -246,22 +246,22 @@ stay_here ms p m x y xs (suc i) h here free rest =
     swap_more (m ∷ ms) p (p + 1) x x (y ∷ xs) (changed ms (p + 1) (y ∷ xs)) i refl
     (swap_below ms p (p + 1) m (y ∷ xs) (changed ms (p + 1) (y ∷ xs)) i (omega arith) (rest i (omega arith) (omega arith)))
 
-no_odd_end : (b p end : ℕ) (made : List ℕ) → p ≡ b + 1 → end ≡ p + 1 → Chained b made end → list_any (nat_eq p) made ≡ false → ⊥
-no_odd_end b p end [] at to h free = omega (arith, h.1)
-no_odd_end b p end (m ∷ ms) at to h free =
-    let here : p ≡ m = omega (arith, h.0.0, Chained-below m end ms h.1) in
+no_odd_end : (b p n : ℕ) (made : List ℕ) → p ≡ b + 1 → n + 1 ≡ p + 1 → IsChain n b made → list_any (nat_eq p) made ≡ false → ⊥
+no_odd_end b p n [] at to h free = omega (arith, h.1)
+no_odd_end b p n (m ∷ ms) at to h free =
+    let here : p ≡ m = omega (arith, h.0.0, chain_low n m ms h.1) in
     false≢true (sym free ∙ ap (λ t. t || list_any (nat_eq p) ms) (agree p m here))
 
 -- the bells at places not made swap
-pub changed_swaps : (b p end : ℕ) (made row : List ℕ) (i : ℕ) → p ≡ b + 1 → end ≡ p + length row → Chained b made end → i < length row → list_any (nat_eq (p + i)) made ≡ false → IsSwap made p row (changed made p row) i
-changed_swaps b p end made [] i at to h in' free = absurd (omega arith)
-changed_swaps b p end made (x ∷ []) i at to h in' free =
+pub changed_swaps : (b p n : ℕ) (made row : List ℕ) (i : ℕ) → p ≡ b + 1 → n + 1 ≡ p + length row → IsChain n b made → i < length row → list_any (nat_eq (p + i)) made ≡ false → IsSwap made p row (changed made p row) i
+changed_swaps b p n made [] i at to h in' free = absurd (omega arith)
+changed_swaps b p n made (x ∷ []) i at to h in' free =
     let first : p + i ≡ p = omega arith in
-    absurd (no_odd_end b p end made at (omega arith) h (ap (λ k. list_any (nat_eq k) made) (sym first) ∙ free))
-changed_swaps b p end [] (x ∷ y ∷ xs) i at to h in' free =
+    absurd (no_odd_end b p n made at (omega arith) h (ap (λ k. list_any (nat_eq k) made) (sym first) ∙ free))
+changed_swaps b p n [] (x ∷ y ∷ xs) i at to h in' free =
     swap_here [] p x y xs i in' refl refl (λ k e within.
-    changed_swaps (b + 2) (p + 2) end [] xs k (omega arith) (omega arith) (omega (arith, h.0, h.1), omega (arith, h.0, h.1)) within refl)
-changed_swaps b p end (m ∷ ms) (x ∷ y ∷ xs) i at to h in' free = elim (cases_eq p m) [
+    changed_swaps (b + 2) (p + 2) n [] xs k (omega arith) (omega arith) (omega (arith, h.0, h.1), omega (arith, h.0, h.1)) within refl)
+changed_swaps b p n (m ∷ ms) (x ∷ y ∷ xs) i at to h in' free = elim (cases_eq p m) [
   | inl here ↦
       let made : list_any (nat_eq p) (m ∷ ms) ≡ true = ap (λ t. t || list_any (nat_eq p) ms) (agree p m here) in
       let step : changed (m ∷ ms) p (x ∷ y ∷ xs) ≡ x ∷ changed ms (p + 1) (y ∷ xs) =
@@ -270,22 +270,22 @@ changed_swaps b p end (m ∷ ms) (x ∷ y ∷ xs) i at to h in' free = elim (cas
       (stay_here ms p m x y xs i in' here free (λ k e within.
       let place : p + 1 + k ≡ p + i = omega arith in
       let above : p + 1 + k ≢ m = omega arith in
-      changed_swaps m (p + 1) end ms (y ∷ xs) k (omega arith) (omega arith) h.1 within
+      changed_swaps m (p + 1) n ms (y ∷ xs) k (omega arith) (omega arith) h.1 within
       (sym (skipped (p + 1 + k) m ms above) ∙ ap (λ q. list_any (nat_eq q) (m ∷ ms)) place ∙ free)))
   | inr other ↦
       let above : p + 2 ≤ m = omega (arith, h.0.0, h.0.1) in
-      let none : list_any (nat_eq p) (m ∷ ms) ≡ false = skipped p m ms other ∙ none_from p m end ms (omega arith) h.1 in
+      let none : list_any (nat_eq p) (m ∷ ms) ≡ false = skipped p m ms other ∙ none_from p m n ms (omega arith) h.1 in
       let apart : p + 1 ≢ m = omega arith in
-      let next : list_any (nat_eq (p + 1)) (m ∷ ms) ≡ false = skipped (p + 1) m ms apart ∙ none_from (p + 1) m end ms (omega arith) h.1 in
-      let start : Chained (b + 2) (m ∷ ms) end = ((omega (arith, h.0.0, h.0.1), omega (arith, h.0.0, h.0.1)), h.1) in
+      let next : list_any (nat_eq (p + 1)) (m ∷ ms) ≡ false = skipped (p + 1) m ms apart ∙ none_from (p + 1) m n ms (omega arith) h.1 in
+      let start : IsChain n (b + 2) (m ∷ ms) = ((omega (arith, h.0.0, h.0.1), omega (arith, h.0.0, h.0.1)), h.1) in
       subst (λ (l : List ℕ). IsSwap (m ∷ ms) p (x ∷ y ∷ xs) l i) (sym (at_swap (m ∷ ms) p x y xs none))
       (swap_here (m ∷ ms) p x y xs i in' none next (λ k e within.
       let place : p + 2 + k ≡ p + i = omega arith in
-      changed_swaps (b + 2) (p + 2) end (m ∷ ms) xs k (omega arith) (omega arith) start within (ap (λ q. list_any (nat_eq q) (m ∷ ms)) place ∙ free)))
+      changed_swaps (b + 2) (p + 2) n (m ∷ ms) xs k (omega arith) (omega arith) start within (ap (λ q. list_any (nat_eq q) (m ∷ ms)) place ∙ free)))
 ]
 
 -- of a change on a row of its stage, by indexes from 0
 pub after_swaps : (c : Places) (r : List ℕ) (i : ℕ) → IsChange c → length r ≡ c.stage → i < c.stage → list_any (nat_eq (i + 1)) c.made ≡ false → IsSwap c.made 1 r (changed c.made 1 r) i
 after_swaps c r i change long within free =
     let place : i + 1 ≡ 1 + i = omega arith in
-    changed_swaps 0 1 (c.stage + 1) c.made r i refl (omega arith) (chained 0 (c.stage + 1) c.made change) (omega arith) (ap (λ q. list_any (nat_eq q) c.made) (sym place) ∙ free)
+    changed_swaps 0 1 c.stage c.made r i refl (omega arith) change (omega arith) (ap (λ q. list_any (nat_eq q) c.made) (sym place) ∙ free)

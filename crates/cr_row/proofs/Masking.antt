@@ -1,29 +1,15 @@
 -- The masks of a change's places give the places back.
-use Rattle.std.proofs.Common.{◌≡◌, ℕ, zero, suc, ◌+◌, ◌-◌, ◌*◌, ◌/◌, ◌%◌, ◌^◌, ◌<◌, ◌≤◌, ◌≢◌, ◌⊎◌, Bool, true, false, cond, ◌||◌, List, [], ◌∷◌, ◌++◌, length, get_or, nat_eq, refl, ap, sym, ◌∙◌, subst, arith, inl, inr, bit_and}
+use Rattle.std.proofs.Common.{◌≡◌, ℕ, zero, suc, ◌+◌, ◌-◌, ◌*◌, ◌/◌, ◌%◌, ◌^◌, ◌<◌, ◌≤◌, ◌≢◌, ◌⊎◌, Bool, true, false, cond, ◌||◌, List, [], ◌∷◌, nat_eq, refl, ap, sym, ◌∙◌, subst, arith, inl, inr, bit_and}
 use Rattle.std.specs.List.{list_any}
 use Rattle.std.proofs.lemmas.Bool.{cases_eq}
 use Rattle.std.proofs.lemmas.Bool.Decides.{nat_tests}
 use Rattle.std.proofs.lemmas.Nat.{shr-shr, and_mask}
-use Rattle.cr_row.specs.Rows.{Places, IsNext, IsChange}
+use Rattle.cr_row.specs.Rows.{Places, IsChain, IsChange}
 use Rattle.cr_row.specs.Masks.{stay_of, first_of, made_of, IsMasked}
 
--- each place is next to the one before it, and the end to the last
-abbrev pub Chained : ℕ → List ℕ → ℕ → Type 0
-Chained before [] end = IsNext before end
-Chained before (x ∷ xs) end = IsNext before x × Chained x xs end
-
-pub chained : (before end : ℕ) (xs : List ℕ) → ((i : ℕ) → i < length xs + 1 → IsNext (get_or (before ∷ (xs ++ end ∷ [])) i 0) (get_or (before ∷ (xs ++ end ∷ [])) (i + 1) 0)) → Chained before xs end
-chained before end [] each = each 0 (omega arith)
-chained before end (x ∷ xs) each = (
-  each 0 (omega arith),
-  chained x end xs (λ i h.
-      let next : suc i + 1 ≡ suc (i + 1) = omega arith in
-      subst (λ (k : ℕ). IsNext (get_or (x ∷ (xs ++ end ∷ [])) i 0) (get_or (before ∷ (x ∷ (xs ++ end ∷ []))) k 0)) next (each (suc i) (omega arith))),
-)
-
-pub Chained-below : (before end : ℕ) (xs : List ℕ) → Chained before xs end → before < end
-Chained-below before end [] h = h.0
-Chained-below before end (x ∷ xs) h = omega (arith, h.0.0, Chained-below x end xs h.1)
+pub chain_low : (n before : ℕ) (ps : List ℕ) → IsChain n before ps → before ≤ n
+chain_low n before [] h = omega (arith, h.0)
+chain_low n before (p ∷ ps) h = omega (arith, h.0.0, chain_low n p ps h.1)
 
 differ : (a b : ℕ) → a ≢ b → nat_eq a b ≡ false
 differ a b n = grind (arith, nat_tests)
@@ -34,12 +20,12 @@ agree a b e = grind (arith, nat_tests)
 pub skipped : (p x : ℕ) (xs : List ℕ) → p ≢ x → list_any (nat_eq p) (x ∷ xs) ≡ list_any (nat_eq p) xs
 skipped p x xs other = ap (λ b. b || list_any (nat_eq p) xs) (differ p x other)
 
-pub none_from : (p x end : ℕ) (xs : List ℕ) → p ≤ x → Chained x xs end → list_any (nat_eq p) xs ≡ false
-none_from p x end [] low h = refl
-none_from p x end (y ∷ ys) low h =
+pub none_from : (p x n : ℕ) (xs : List ℕ) → p ≤ x → IsChain n x xs → list_any (nat_eq p) xs ≡ false
+none_from p x n [] low h = refl
+none_from p x n (y ∷ ys) low h =
     let above : x < y = h.0.0 in
     let other : p ≢ y = omega arith in
-    skipped p y ys other ∙ none_from p y end ys (omega arith) h.1
+    skipped p y ys other ∙ none_from p y n ys (omega arith) h.1
 
 -- a place below says nothing
 stay_below : (n p x : ℕ) (made : List ℕ) → x < p → stay_of n p (x ∷ made) ≡ stay_of n p made
@@ -75,32 +61,32 @@ stay_hit n p made e = ap (λ b. cond b (15 + 16 * stay_of (suc n) (p + 1) made) 
 stay_skip : (n p : ℕ) (made : List ℕ) → list_any (nat_eq p) made ≡ false → stay_of (suc (suc n)) p made ≡ 256 * stay_of n (p + 2) made
 stay_skip n p made e = ap (λ b. cond b (15 + 16 * stay_of (suc n) (p + 1) made) (256 * stay_of n (p + 2) made)) e
 
-back : (n b p end : ℕ) (made : List ℕ) → p ≡ b + 1 → end ≡ p + n → Chained b made end → made_of n p (stay_of n p made) ≡ made
-back zero b p end [] at to h = refl
-back zero b p end (x ∷ xs) at to h = absurd (omega (arith, h.0.0, Chained-below x end xs h.1))
-back (suc zero) b p end [] at to h = absurd (omega (arith, h.1))
-back (suc zero) b p end (x ∷ xs) at to h =
-    let here : p ≡ x = omega (arith, h.0.0, Chained-below x end xs h.1) in
-    let rest : [] ≡ xs = back zero x (p + 1) end xs (omega arith) (omega arith) h.1 in
+back : (n b p top : ℕ) (made : List ℕ) → p ≡ b + 1 → top + 1 ≡ p + n → IsChain top b made → made_of n p (stay_of n p made) ≡ made
+back zero b p top [] at to h = refl
+back zero b p top (x ∷ xs) at to h = absurd (omega (arith, h.0.0, chain_low top x xs h.1))
+back (suc zero) b p top [] at to h = absurd (omega (arith, h.1))
+back (suc zero) b p top (x ∷ xs) at to h =
+    let here : p ≡ x = omega (arith, h.0.0, chain_low top x xs h.1) in
+    let rest : [] ≡ xs = back zero x (p + 1) top xs (omega arith) (omega arith) h.1 in
     λ i. here i ∷ rest i
-back (suc (suc n)) b p end [] at to h =
+back (suc (suc n)) b p top [] at to h =
     ap (made_of (suc (suc n)) p) (stay_skip n p [] refl) ∙ made_skip n p (stay_of n (p + 2) [])
-    ∙ back n (b + 2) (p + 2) end [] (omega arith) (omega arith) (omega (arith, h.0, h.1), omega (arith, h.0, h.1))
-back (suc (suc n)) b p end (x ∷ xs) at to h = elim (cases_eq p x) [
+    ∙ back n (b + 2) (p + 2) top [] (omega arith) (omega arith) (omega (arith, h.0, h.1), omega (arith, h.0, h.1))
+back (suc (suc n)) b p top (x ∷ xs) at to h = elim (cases_eq p x) [
   | inl here ↦
       ap (made_of (suc (suc n)) p) (stay_hit n p (x ∷ xs) (ap (λ b. b || list_any (nat_eq p) xs) (agree p x here)))
       ∙ made_hit (suc n) p (stay_of (suc n) (p + 1) (x ∷ xs))
       ∙ ap (λ s. p ∷ made_of (suc n) (p + 1) s) (stay_below (suc n) (p + 1) x xs (omega arith))
-      ∙ (λ i. here i ∷ back (suc n) x (p + 1) end xs (omega arith) (omega arith) h.1 i)
+      ∙ (λ i. here i ∷ back (suc n) x (p + 1) top xs (omega arith) (omega arith) h.1 i)
   | inr other ↦
       let above : p + 2 ≤ x = omega (arith, h.0.0, h.0.1) in
-      ap (made_of (suc (suc n)) p) (stay_skip n p (x ∷ xs) (skipped p x xs other ∙ none_from p x end xs (omega arith) h.1))
+      ap (made_of (suc (suc n)) p) (stay_skip n p (x ∷ xs) (skipped p x xs other ∙ none_from p x top xs (omega arith) h.1))
       ∙ made_skip n p (stay_of n (p + 2) (x ∷ xs))
-      ∙ back n (b + 2) (p + 2) end (x ∷ xs) (omega arith) (omega arith) ((omega (arith, h.0.0, h.0.1), omega (arith, h.0.0, h.0.1)), h.1)
+      ∙ back n (b + 2) (p + 2) top (x ∷ xs) (omega arith) (omega arith) ((omega (arith, h.0.0, h.0.1), omega (arith, h.0.0, h.0.1)), h.1)
 ]
 
 pub made_back : (stage : ℕ) (places : List ℕ) → IsChange (record { stage = stage; made = places }) → made_of stage 1 (stay_of stage 1 places) ≡ places
-made_back stage places change = back stage 0 1 (stage + 1) places refl (omega arith) (chained 0 (stage + 1) places change)
+made_back stage places change = back stage 0 1 stage places refl (omega arith) change
 
 -- a place is made where its four bits are set
 any_cond : (b : Bool) (p x : ℕ) (xs : List ℕ) → list_any (nat_eq p) (cond b (x ∷ xs) xs) ≡ (cond b (nat_eq p x) false || list_any (nat_eq p) xs)

@@ -1,9 +1,9 @@
 -- What the packing loops keep.
-use Rattle.std.proofs.Common.{◌≡◌, ℕ, suc, ◌+◌, ◌-◌, ◌*◌, ◌/◌, ◌%◌, ◌^◌, ◌<◌, ◌≤◌, List, ◌∷◌, length, get_or, drop, ap, sym, ◌∙◌, subst, arith}
+use Rattle.std.proofs.Common.{◌≡◌, ℕ, suc, ◌+◌, ◌-◌, ◌*◌, ◌/◌, ◌%◌, ◌^◌, ◌<◌, ◌≤◌, List, [], ◌∷◌, length, get_or, drop, refl, ap, sym, ◌∙◌, subst, arith}
 use Rattle.std.proofs.Math.Nat.{pow-le-pow_right}
 use Rattle.std.proofs.lemmas.List.{drop_more, drop_all}
 use Rattle.cr_row.specs.Rows.{IsRow, product}
-use Rattle.cr_row.specs.Packed.{bells_of, bells_length, bell_read, AreBells}
+use Rattle.cr_row.specs.Packed.{bells_of, key_of, bells_length, bell_read, AreBells}
 use Rattle.cr_row.proofs.RowLaws.{length-product, get_or-product, IsRow-product, AreBells-row}
 
 -- the bells from place `left` on are packed
@@ -99,3 +99,15 @@ Composed-all n first second left bits none so_far =
       ap (λ k. bells_of k bits) (sym all) ∙ so_far.kept.bells ∙ ap (λ k. drop k (product (bells_of n first) (bells_of n second))) none,
       subst (λ (k : ℕ). bits < 16 ^ k) all so_far.kept.fits,
     )
+
+-- the key gives the bells back
+key_back : (bells : List ℕ) → AreBells bells → bells_of (length bells) (key_of bells) ≡ bells
+key_back [] are = refl
+key_back (b ∷ bells) are =
+    let first = are 0 (omega arith) in
+    let whole : b - 1 + 16 * key_of bells ≡ 16 * key_of bells + (b - 1) = omega arith in
+    ap (bells_of (suc (length bells))) whole ∙ bells_of_more (length bells) (key_of bells) b first.0 first.1 ∙ ap (λ l. b ∷ l) (key_back bells (λ i h. are (suc i) (omega arith)))
+
+pub same_key : (r s : List ℕ) → IsRow r → IsRow s → length r ≤ 16 → length r ≡ length s → key_of r ≡ key_of s → r ≡ s
+same_key r s one two few long e =
+    sym (key_back r (AreBells-row r one few)) ∙ (λ i. bells_of (long i) (e i)) ∙ key_back s (AreBells-row s two (omega arith))

@@ -2,7 +2,7 @@
 use Rattle.std.proofs.Common.{◌≡◌, ℕ, ◌+◌, ◌-◌, ◌<◌, ◌≤◌, List, length, get_or, refl, ap, sym, ◌∙◌, arith}
 use Rattle.std.proofs.lemmas.List.FromFn.{length-range_with_len, get_or-range_with_len}
 use Rattle.std.proofs.lemmas.List.{get_or-map, length-map, ext_get_or}
-use Rattle.cr_row.specs.Rows.{IsRow, rounds, product}
+use Rattle.cr_row.specs.Rows.{IsRow, rounds, product, IsInverse}
 use Rattle.cr_row.specs.Packed.{AreBells}
 
 pub length-rounds : (n : ℕ) → length (rounds n) ≡ n
@@ -100,3 +100,17 @@ product_right g h r row long same e =
     ext_get_or 0 g h (long ∙ sym same) (λ k in'. (
     let (i, within, at) = row.reached (k + 1) (omega arith) (omega arith) in
     sym (product_reaches g r (get_or g k 0) k i within refl at) ∙ ap (λ l. get_or l i 0) e ∙ product_reaches h r (get_or h k 0) k i within refl at))
+
+-- a row that undoes another on the right does so on the left
+pub undone_back : (h r : List ℕ) → IsRow h → IsRow r → length h ≡ length r → product h r ≡ rounds (length h) → product r h ≡ rounds (length h)
+undone_back h r one two same home =
+    let row : IsRow (product r h) = IsRow-product r h two one (sym same) in
+    let whole : product h (product r h) ≡ h = sym (product_assoc h r h one (sym same)) ∙ ap (λ l. product l h) home ∙ rounds-product h one in
+    product_left h (product r h) (rounds (length h)) one row (IsRow-rounds (length h)) (length-product r h) (length-rounds (length h)) (whole ∙ sym (product-rounds h))
+
+pub inverse_right : (h r : List ℕ) → IsRow h → IsRow r → length h ≡ length r → product h r ≡ rounds (length h) → IsInverse h r
+inverse_right h r one two same home = record { right = home; left = undone_back h r one two same home }
+
+pub inverse_left : (h r : List ℕ) → IsRow h → IsRow r → length h ≡ length r → product r h ≡ rounds (length h) → IsInverse h r
+inverse_left h r one two same home =
+    record { right = undone_back r h two one (sym same) (home ∙ ap rounds same) ∙ ap rounds (sym same); left = home }

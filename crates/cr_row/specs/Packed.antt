@@ -10,9 +10,9 @@ bells_of zero bits = []
 bells_of (suc n) bits = (bits % 16 + 1) ∷ bells_of n (bits / 16)
 
 -- the number that bells are packed in
-abbrev pub bits_of : List ℕ → ℕ
-bits_of [] = 0
-bits_of (b ∷ bs) = (b - 1) + 16 * bits_of bs
+abbrev pub key_of : List ℕ → ℕ
+key_of [] = 0
+key_of (b ∷ bs) = (b - 1) + 16 * key_of bs
 
 -- what the two fields of a row keep
 pub record IsPacked (stage bits : ℕ) : Type 0 where
@@ -25,10 +25,10 @@ pub bells_length : (n bits : ℕ) → length (bells_of n bits) ≡ n
 bells_length zero bits = refl
 bells_length (suc n) bits = ap suc (bells_length n (bits / 16))
 
-pub packed_back : (n bits : ℕ) → bits < 16 ^ n → bits_of (bells_of n bits) ≡ bits
+pub packed_back : (n bits : ℕ) → bits < 16 ^ n → key_of (bells_of n bits) ≡ bits
 packed_back zero bits h = omega arith
 packed_back (suc n) bits h =
-    let rest : bits_of (bells_of n (bits / 16)) ≡ bits / 16 = packed_back n (bits / 16) (omega arith) in
+    let rest : key_of (bells_of n (bits / 16)) ≡ bits / 16 = packed_back n (bits / 16) (omega arith) in
     omega arith
 
 -- the bell at a place is read from its four bits
@@ -53,4 +53,4 @@ AreBells bells = (i : ℕ) → i < length bells → (0 < get_or bells i 0) × (g
 -- rows that are one are packed in one way
 pub same_bits : (n m a b : ℕ) → a < 16 ^ n → b < 16 ^ m → bells_of n a ≡ bells_of m b → (a ≡ b) × (n ≡ m)
 same_bits n m a b h g e =
-    (sym (packed_back n a h) ∙ ap bits_of e ∙ packed_back m b g, sym (bells_length n a) ∙ ap length e ∙ bells_length m b)
+    (sym (packed_back n a h) ∙ ap key_of e ∙ packed_back m b g, sym (bells_length n a) ∙ ap length e ∙ bells_length m b)

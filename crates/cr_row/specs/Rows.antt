@@ -1,5 +1,5 @@
 -- Rows and changes of the Framework for Method Ringing, as plain lists: the bell at each place, from the first place on.
-use Rattle.std.specs.Prelude.{◌≡◌, ℕ, ◌+◌, ◌-◌, ◌%◌, ◌<◌, ◌≤◌, cond, List, [], ◌∷◌, ◌++◌, length, get_or, map, nat_eq}
+use Rattle.std.specs.Prelude.{◌≡◌, ℕ, ◌+◌, ◌-◌, ◌%◌, ◌<◌, ◌≤◌, cond, List, [], ◌∷◌, length, get_or, map, nat_eq}
 use Rattle.std.specs.List.{range_with_len, list_any}
 
 -- a row: each of the bells 1 to the length, once. No other stands at a place, none stands twice, and each stands somewhere
@@ -30,13 +30,14 @@ pub record Places : Type 0 where
 abbrev pub IsNext : ℕ → ℕ → Type 0
 IsNext before place = (before < place) × ((place - before) % 2 ≡ 1)
 
--- the places made, with 0 before the first and the stage's next number after the last
-abbrev pub edges : Places → List ℕ
-edges change = 0 ∷ (change.made ++ (change.stage + 1) ∷ [])
+-- each of some places of n follows the one before it, and n + 1 follows the last
+abbrev pub IsChain : ℕ → ℕ → List ℕ → Type 0
+IsChain n before [] = IsNext before (n + 1)
+IsChain n before (place ∷ places) = IsNext before place × IsChain n place places
 
--- a change: the places made ascend, and each stretch of places not made has an even length
+-- a change: the places made ascend, and each stretch of places not made, also before the first and after the last, has an even length
 abbrev pub IsChange : Places → Type 0
-IsChange change = (i : ℕ) → i < length change.made + 1 → IsNext (get_or (edges change) i 0) (get_or (edges change) (i + 1) 0)
+IsChange change = IsChain change.stage 0 change.made
 
 -- a row from place p on, after a change: at a place made the bell stays; in a stretch of places not made the first swaps with the second, the third with the fourth
 abbrev pub changed : List ℕ → ℕ → List ℕ → List ℕ

@@ -3,6 +3,7 @@
 ghost use Rattle.std.specs.Prelude.{◌≡◌, ◌⊎◌, ℕ, ◌+◌, ◌-◌, ◌<◌, ◌≤◌, true, false, List, length, get_or, nat_eq};
 ghost use Rattle.std.specs.List.{list_any};
 ghost use Rattle.cr_row.specs.Rows.{IsRow, rounds, product, IsInverse, Places, IsChange, after};
+ghost use Rattle.cr_row.specs.Packed.{key_of};
 ghost use Rattle.cr_row.specs.PlaceFaults.{IsPlaceFault};
 ghost use Rattle.cr_row.specs.declared.faults.PlaceFault.{PlaceFault};
 
@@ -50,6 +51,7 @@ pub fn rows_cancel()
 /// Rounds is neutral on both sides.
 pub fn rounds_is_neutral()
     ensures row { (n : ℕ) → IsRow (rounds n) }
+    ensures length { (n : ℕ) → length (rounds n) ≡ n }
     ensures right { (h : List ℕ) → product h (rounds (length h)) ≡ h }
     ensures left { (r : List ℕ) → IsRow r → product (rounds (length r)) r ≡ r }
 {}
@@ -58,6 +60,17 @@ pub fn rounds_is_neutral()
 pub fn inverse_is_unique()
     ensures row { (h r : List ℕ) → IsRow h → IsInverse h r → IsRow r }
     ensures one { (h r s : List ℕ) → IsRow h → IsInverse h r → IsInverse h s → r ≡ s }
+{}
+
+/// Of two rows of one length, one is the inverse of the other as soon as it undoes it on one side.
+pub fn inverse_on_one_side()
+    ensures right { (h r : List ℕ) → IsRow h → IsRow r → length h ≡ length r → product h r ≡ rounds (length h) → IsInverse h r }
+    ensures left { (h r : List ℕ) → IsRow h → IsRow r → length h ≡ length r → product r h ≡ rounds (length h) → IsInverse h r }
+{}
+
+/// Rows of at most 16 bells that have one length and one key are one.
+pub fn keys_tell_rows_apart()
+    ensures { (r s : List ℕ) → IsRow r → IsRow s → length r ≤ 16 → length r ≡ length s → key_of r ≡ key_of s → r ≡ s }
 {}
 
 /// Of the places given there is at most one fault, and none where they are those of a change.

@@ -15,8 +15,8 @@ pub use changes::Change;
 pub use faults::PlaceFault;
 pub use laws::{
     change_after_product, change_of_a_row, change_swaps_neighbours, change_twice,
-    inverse_is_unique, place_fault_is_unique, product_associates, product_of_rows,
-    rounds_is_neutral, rows_cancel,
+    inverse_is_unique, inverse_on_one_side, keys_tell_rows_apart, place_fault_is_unique,
+    product_associates, product_of_rows, rounds_is_neutral, rows_cancel,
 };
 pub use memory::NoMemory;
 pub use rows::Row;

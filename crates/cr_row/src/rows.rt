@@ -3,7 +3,7 @@
 ghost use Rattle.std.specs.Prelude.{IsTrue, ◌≡◌, ℕ, ◌+◌, ◌-◌, ◌*◌, ◌/◌, ◌%◌, ◌<◌, ◌≤◌, ◌↔◌, ◌^◌, List, length, get_or, IsSome, IfSome};
 ghost use Rattle.std.specs.List.{Contains};
 ghost use Rattle.cr_row.specs.Rows.{IsRow, rounds, product, IsInverse, Places, after};
-ghost use Rattle.cr_row.specs.Packed.{bells_of, AreBells, Undone};
+ghost use Rattle.cr_row.specs.Packed.{bells_of, key_of, AreBells, Undone};
 
 use crate::changes::Change;
 use crate::stages::Stage;
@@ -21,7 +21,7 @@ pub struct Row {
 
 impl Model for Row {
     ghost use Rattle.std.specs.Prelude.{◌≡◌, ℕ, ◌<◌, ◌≤◌, ◌^◌, List, length};
-    ghost use Rattle.cr_row.specs.Packed.{bells_of, bits_of, IsPacked, packed_back, bells_length};
+    ghost use Rattle.cr_row.specs.Packed.{bells_of, key_of, IsPacked, packed_back, bells_length};
 
     ghost Value = { List ℕ };
 
@@ -29,7 +29,7 @@ impl Model for Row {
 
     ghost invariant = { λ r. IsPacked r.stage r.bits };
 
-    ghost inverse = { λ bells. record { bits = bits_of bells; stage = length bells } };
+    ghost inverse = { λ bells. record { bits = key_of bells; stage = length bells } };
 
     ghost inverse_ok = { λ a h i. record { bits = packed_back a.stage a.bits h.fits i; stage = bells_length a.stage a.bits i } };
 }
@@ -117,6 +117,15 @@ impl Row {
             bits: inverted(self.bits, self.stage),
             stage: self.stage,
         }
+    }
+
+    /// The row in one number: four bits a bell, the first place lowest, each one less than its bell.
+    /// Rows of one stage are one where their keys are; rows of two stages can have one key.
+    pub fn key(&self) -> u64
+        ensures is { result ≡ key_of self.now }
+        ensures fits { result < 16 ^ length self.now }
+    {
+        self.bits
     }
 
     // The row of these bells.

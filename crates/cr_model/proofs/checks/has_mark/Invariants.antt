@@ -1,6 +1,0 @@
-use Rattle.std.proofs.Common.{◌≢◌, ℕ, ◌<◌}
-use Rattle.cr_model.specs.Sound.{step_at}
-use Rattle.cr_model.proofs.checks.has_mark.Given as goal
-
-abbrev pub invariant-loop-index : goal.invariant-loop-index
-invariant-loop-index l = (k : ℕ) → k < l.index → (step_at l.leads k).mark ≢ l.mark

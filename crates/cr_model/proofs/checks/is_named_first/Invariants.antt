@@ -1,6 +1,0 @@
-use Rattle.std.proofs.Common.{◌≢◌, ℕ, ◌<◌, Some}
-use Rattle.cr_model.specs.Sound.{bell_named, cell_at}
-use Rattle.cr_model.proofs.checks.is_named_first.Given as goal
-
-abbrev pub invariant-loop-earlier : goal.invariant-loop-earlier
-invariant-loop-earlier l = (j : ℕ) → j < l.earlier → bell_named (cell_at l.cells j) ≢ Some l.bell

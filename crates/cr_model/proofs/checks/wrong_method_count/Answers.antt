@@ -1,5 +1,0 @@
-use Rattle.std.proofs.Common.{below_more}
-use Rattle.cr_model.proofs.checks.wrong_method_count.Goals as goal
-
-pub loop-index-preserved : goal.loop-index-preserved
-loop-index-preserved c = below_more _ _ c.loop-index.invariant (c.method_count_is_right.ensures.0 c.if-not-method_count_is_right.false)

@@ -1,6 +1,0 @@
-use Rattle.std.proofs.Common.{ℕ, ◌<◌}
-use Rattle.cr_model.specs.Sound.{MethodCountIsRight, method_count_at}
-use Rattle.cr_model.proofs.checks.wrong_method_count.Given as goal
-
-abbrev pub invariant-loop-index : goal.invariant-loop-index
-invariant-loop-index l = (i : ℕ) → i < l.index → MethodCountIsRight l.letters i (method_count_at l.counts i)

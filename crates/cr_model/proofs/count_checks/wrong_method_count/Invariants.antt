@@ -1,0 +1,6 @@
+use Rattle.std.proofs.Common.{ℕ, ◌<◌}
+use Rattle.cr_model.specs.Right.{MethodCountIsRight, method_count_at}
+use Rattle.cr_model.proofs.count_checks.wrong_method_count.Given as goal
+
+abbrev pub invariant-loop-index : goal.invariant-loop-index
+invariant-loop-index l = (i : ℕ) → i < l.index → MethodCountIsRight l.letters i (method_count_at l.counts i)
