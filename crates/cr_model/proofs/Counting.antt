@@ -44,19 +44,19 @@ times_of_found found calling some =
     subst (Contains found) (sym ((bytes_eq-Decides calling other).0 same)) held
 
 -- what is covered was found or has a node above it
-reached_above : (p : ProblemParts) (found nodes : List (List ℕ)) (calling : List ℕ) → Covers p found nodes calling → 1 ≤ times_found found calling + nodes_above p nodes calling
+pub reached_above : (p : ProblemParts) (found nodes : List (List ℕ)) (calling : List ℕ) → Covers p found nodes calling → 1 ≤ times_found found calling + nodes_above p nodes calling
 reached_above p found nodes calling covers = elim covers.reached [
   | inl held ↦ omega (arith, found_times found calling held)
-  | inr above ↦ omega (arith, counted (is_above p calling) above.0 nodes above.1 above.2)
+  | inr above ↦ omega (arith, counted (λ node. is_above p node calling) above.0 nodes above.1 above.2)
 ]
 
 -- and back
-covers_by_count : (p : ProblemParts) (found nodes : List (List ℕ)) (calling : List ℕ) → Kept p calling → 1 ≤ times_found found calling + nodes_above p nodes calling → Covers p found nodes calling
+pub covers_by_count : (p : ProblemParts) (found nodes : List (List ℕ)) (calling : List ℕ) → Kept p calling → 1 ≤ times_found found calling + nodes_above p nodes calling → Covers p found nodes calling
 covers_by_count p found nodes calling kept some = record {
   kept = kept;
   reached = elim (cases_lt 0 (times_found found calling)) [
     | inl more ↦ inl (times_of_found found calling (omega arith))
-    | inr none ↦ inr (passing (is_above p calling) nodes (omega arith))
+    | inr none ↦ inr (passing (λ node. is_above p node calling) nodes (omega arith))
   ];
 }
 

@@ -1,20 +1,17 @@
 -- The least wanted rotation of a calling.
-use Rattle.std.proofs.Common.{◌≡◌, ℕ, zero, suc, ◌+◌, ◌<◌, Bool, true, false, ◌&&◌, List, ◌++◌, length, take, drop, Ordering, Less, Equal, Greater, is_lt, nat_cmp, inl, inr, refl, sym, ap, ◌∙◌, subst, arith, take-append-drop, take_at, drop_at, length-append}
+use Rattle.std.proofs.Common.{◌≡◌, ℕ, zero, suc, ◌+◌, ◌<◌, Bool, true, false, List, ◌++◌, length, take, drop, Ordering, Less, Equal, Greater, is_lt, nat_cmp, inl, inr, refl, sym, ap, ◌∙◌, subst, arith, take-append-drop, take_at, drop_at, length-append}
 use Rattle.std.specs.Cmp.Lexicographic.{slice_cmp}
 use Rattle.std.proofs.lemmas.Bool.{cases_eq, and_from, and_parts, false≢true}
 use Rattle.std.proofs.lemmas.Cmp.{nat_list_cmp_total}
 use Rattle.cr_model.specs.Problems.{ProblemParts}
+use Rattle.cr_model.specs.Decided.{is_wanted, rotated, is_better}
 use Rattle.cr_model.specs.Touches.{Wanted, IsRotation, IsLess, Kept}
 use Rattle.cr_model.proofs.InOrder.{never_itself}
 use Rattle.cr_model.proofs.Rotations.{itself, onward}
-use Rattle.cr_model.proofs.WantedTest.{is_wanted, is_wanted_decided}
-
--- begun k leads later
-abbrev rotated : ℕ → List ℕ → List ℕ
-rotated k calling = drop k calling ++ take k calling
+use Rattle.cr_model.proofs.Deciding.{is_wanted_decided}
 
 -- each rotation begins at a later lead
-rotated_is : (calling other : List ℕ) → IsRotation calling other → (k : ℕ) × (k < length calling + 1) × (other ≡ rotated k calling)
+pub rotated_is : (calling other : List ℕ) → IsRotation calling other → (k : ℕ) × (k < length calling + 1) × (other ≡ rotated k calling)
 rotated_is calling other turned =
     let front = turned.0 in
     let whole : length calling ≡ length front + length turned.1 = ap length turned.2 ∙ length-append front turned.1 in
@@ -29,14 +26,10 @@ record Best (p : ProblemParts) (calling best : List ℕ) (n : ℕ) : Type 0 wher
   least : (k : ℕ) → k < n → Wanted p (rotated k calling) → IsLess (rotated k calling) best → ⊥
 
 -- the test of `Less`
-less_from_test : (o : Ordering) → is_lt o ≡ true → o ≡ Less
+pub less_from_test : (o : Ordering) → is_lt o ≡ true → o ≡ Less
 less_from_test Less h = refl
 less_from_test Equal h = absurd (false≢true h)
 less_from_test Greater h = absurd (false≢true h)
-
--- wanted, and less than the best so far
-abbrev is_better : ProblemParts → List ℕ → List ℕ → Bool
-is_better p best other = is_wanted p other && is_lt (slice_cmp nat_cmp other best)
 
 -- a better one is the best so far
 takes : (p : ProblemParts) (calling best : List ℕ) (n : ℕ) → Best p calling best n → Wanted p (rotated n calling) → IsLess (rotated n calling) best → Best p calling (rotated n calling) (suc n)

@@ -1,10 +1,14 @@
 pub mod Bells
+pub mod BookExists
 pub mod Checking
 pub mod Counting
+pub mod Deciding
 pub mod Differing
 pub mod FirstFailure
 pub mod InOrder
+pub mod KeptTest
 pub mod LeastRotation
+pub mod Listing
 pub mod Measured
 pub mod Minimus
 pub mod OneFault
@@ -14,4 +18,3 @@ pub mod Ringing
 pub mod Rotations
 pub mod Splitting
 pub mod Turned
-pub mod WantedTest

@@ -8,13 +8,14 @@ use Rattle.std.proofs.lemmas.Cmp.{nat_list_cmp_total}
 use Rattle.std.proofs.lemmas.List.Elements.{All-head, All-tail}
 use Rattle.cr_model.specs.Callings.{HasSteps, length_of}
 use Rattle.cr_model.specs.Queries.{extent, cap}
+use Rattle.cr_model.specs.Decided.{is_wanted}
 use Rattle.cr_model.specs.Touches.{Wanted, Kept}
 use Rattle.cr_model.specs.Nodes.{Covers}
 use Rattle.cr_model.specs.Books.{IsBook, book_order, book_text}
 use Rattle.cr_model.specs.Examples.{minimus, plain_course}
 use Rattle.cr_model.proofs.InOrder.{contains_cases, none_held, never_itself}
 use Rattle.cr_model.proofs.Rotations.{rotation_of_equal}
-use Rattle.cr_model.proofs.WantedTest.{is_wanted, is_wanted_decided}
+use Rattle.cr_model.proofs.Deciding.{is_wanted_decided}
 
 -- three leads are wanted
 passes : is_wanted minimus plain_course ≡ true

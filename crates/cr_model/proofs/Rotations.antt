@@ -58,7 +58,7 @@ rotation_of_equal step number other turned =
     ap (λ n. replicate n step) again ∙ sym (replicate-append-replicate (number - length front) (length front) step) ∙ ap₂ ◌++◌ (sym end) (sym begin) ∙ sym turned.3
 
 -- lists that compare as equal are one
-same_when_equal : (xs ys : List ℕ) → slice_cmp nat_cmp xs ys ≡ Equal → xs ≡ ys
+pub same_when_equal : (xs ys : List ℕ) → slice_cmp nat_cmp xs ys ≡ Equal → xs ≡ ys
 same_when_equal xs ys h = (bytes_eq-Decides xs ys).0 (sym (is_eq-slice_cmp xs ys) ∙ ap is_eq h)
 
 -- two kept rotations are one

@@ -39,21 +39,21 @@ module _ (p : ProblemParts) (job found rest more left : List (List ℕ)) (one : 
       (valid, (j, top, within', at', begins_onward top above (get_or left k d) (subst (λ (node : List ℕ). is_prefix top node ≡ true) at begins') begins))
 
   -- no node that is left is above what was found first
-  apart : (calling node : List ℕ) → Any (λ above. is_prefix above node ≡ true) rest → ((i : ℕ) → i < length rest → is_above p calling (get_or rest i []) ≡ false) → is_above p calling node ≡ false
+  apart : (calling node : List ℕ) → Any (λ above. is_prefix above node ≡ true) rest → ((i : ℕ) → i < length rest → is_above p (get_or rest i []) calling ≡ false) → is_above p node calling ≡ false
   apart calling node below none =
       let (i, above, within, at, begins) = below in
-      false_from_ne_true (is_above p calling node) (λ h.
+      false_from_ne_true (is_above p node calling) (λ h.
       let at' : get_or rest i [] ≡ above = get_or_default rest i [] above within ∙ at in
-      true≢false (sym (begins_onward above node (part_of p calling) begins h) ∙ ap (is_above p calling) (sym at') ∙ none i within))
+      true≢false (sym (begins_onward above node (part_of p calling) begins h) ∙ ap (λ n. is_above p n calling) (sym at') ∙ none i within))
 
   -- no node that is left is above what was found
-  found_apart : (i j : ℕ) → i < length left → j < length (found ++ more) → is_above p (get_or (found ++ more) j []) (get_or left i []) ≡ false
+  found_apart : (i j : ℕ) → i < length left → j < length (found ++ more) → is_above p (get_or left i []) (get_or (found ++ more) j []) ≡ false
   found_apart i j inside within = elim (cases_lt j (length found)) [
     | inl first ↦
-        ap (λ calling. is_above p calling (get_or left i [])) (get_or_append_left found more [] j first)
+        ap (λ calling. is_above p (get_or left i []) calling) (get_or_append_left found more [] j first)
         ∙ apart (get_or found j []) (get_or left i []) (two.rest_valid i [] inside).1 (λ k below. one.independent.found_apart k j below first)
     | inr later ↦
-        ap (λ calling. is_above p calling (get_or left i [])) (get_or-append_right found more (length found) j [] refl later)
+        ap (λ calling. is_above p (get_or left i []) calling) (get_or-append_right found more (length found) j [] refl later)
         ∙ two.independent.found_apart i (j - length found) inside (omega (arith, length-append found more))
   ]
 

@@ -60,10 +60,6 @@ limited_keys name = must name text ∷ may (codes "min") number ∷ may (codes "
 abbrev pub com_keys : List Key
 com_keys = may (codes "min") number ∷ may (codes "max") number ∷ []
 
--- the names that the top of the file may have
-abbrev pub top_names : List (List ℕ)
-top_names = codes "stage" ∷ codes "method" ∷ codes "call" ∷ codes "query" ∷ codes "count" ∷ codes "leads" ∷ codes "rows" ∷ codes "com" ∷ []
-
 -- what stands at a key may stand there
 abbrev pub is_right : Key → Option Data → Bool
 is_right key None = not key.needed
@@ -115,10 +111,48 @@ array_faults name least most keys (Some (array items)) = cond (are_tables least 
 array_faults name least most keys (Some _) = name ∷ []
 
 -- the faults of a table in the top: its name, or those of its keys
-abbrev pub part_faults : List ℕ → Bool → List Key → Option Data → List (List ℕ)
-part_faults name needed keys None = cond needed (name ∷ []) []
-part_faults name needed keys (Some (table fields)) = table_faults (name ++ codes ".") keys fields
-part_faults name needed keys (Some _) = name ∷ []
+abbrev pub single_faults : List ℕ → Bool → List Key → Option Data → List (List ℕ)
+single_faults name needed keys None = cond needed (name ∷ []) []
+single_faults name needed keys (Some (table fields)) = table_faults (name ++ codes ".") keys fields
+single_faults name needed keys (Some _) = name ∷ []
+
+-- what a part of the file is: an array of a number of tables from `least` to `most`, or a table, needed or not
+pub data Shape : Type 0 where
+  several : ℕ → ℕ → Shape
+  single : Bool → Shape
+
+-- a part of the file: its name in the top, and the keys of each of its tables
+pub record Part : Type 0 where
+  pub name : List ℕ
+  pub shape : Shape
+  pub keys : List Key
+
+abbrev pub part_named : List ℕ → Shape → List Key → Part
+part_named name shape keys = record { name = name; shape = shape; keys = keys }
+
+-- the parts in their order, where the methods have these letters
+abbrev pub parts : List (List ℕ) → List Part
+parts letters =
+    part_named (codes "method") (several 1 8) method_keys
+    ∷ part_named (codes "call") (several 0 23) (call_keys letters)
+    ∷ part_named (codes "query") (single true) query_keys
+    ∷ part_named (codes "count") (several 0 16) (limited_keys (codes "mark"))
+    ∷ part_named (codes "leads") (several 0 16) (limited_keys (codes "letter"))
+    ∷ part_named (codes "rows") (several 0 32) (limited_keys (codes "pattern"))
+    ∷ part_named (codes "com") (single false) com_keys
+    ∷ []
+
+-- the names that the top of the file may have
+abbrev pub top_names : List (List ℕ)
+top_names = codes "stage" ∷ map (λ part. part.name) (parts [])
+
+abbrev pub shape_faults : List ℕ → List Key → Shape → Option Data → List (List ℕ)
+shape_faults name keys (several least most) found = array_faults name least most keys found
+shape_faults name keys (single needed) found = single_faults name needed keys found
+
+-- the faults of a part
+abbrev pub part_faults : Members → Part → List (List ℕ)
+part_faults members part = shape_faults part.name part.keys part.shape (get_member part.name members)
 
 -- the values of an array at a key of the top
 abbrev pub values_in : Option Data → List Data
@@ -141,11 +175,5 @@ written_letters members = map (λ value. text_at (codes "letter") (members_in va
 unfoldable pub key_faults : Members → List (List ℕ)
 key_faults members =
     key_fault [] members stage_key
-    ++ array_faults (codes "method") 1 8 method_keys (get_member (codes "method") members)
-    ++ array_faults (codes "call") 0 23 (call_keys (written_letters members)) (get_member (codes "call") members)
-    ++ part_faults (codes "query") true query_keys (get_member (codes "query") members)
-    ++ array_faults (codes "count") 0 16 (limited_keys (codes "mark")) (get_member (codes "count") members)
-    ++ array_faults (codes "leads") 0 16 (limited_keys (codes "letter")) (get_member (codes "leads") members)
-    ++ array_faults (codes "rows") 0 32 (limited_keys (codes "pattern")) (get_member (codes "rows") members)
-    ++ part_faults (codes "com") false com_keys (get_member (codes "com") members)
-    ++ unknown_keys [] top_names members
+    ++ (flat_map (part_faults members) (parts (written_letters members))
+    ++ unknown_keys [] top_names members)

@@ -4,6 +4,8 @@ pub mod Callings
 pub mod Queries
 pub mod Touches
 pub mod Nodes
+pub mod Decided
+pub mod Turning
 pub mod Books
 pub mod Checks
 pub mod Limits

@@ -18,10 +18,10 @@ is_prefix (x ∷ node) (y ∷ steps) = nat_eq x y && is_prefix node steps
 
 -- a node is above a touch: it begins the touch's part
 abbrev pub is_above : ProblemParts → List ℕ → List ℕ → Bool
-is_above p calling node = is_prefix node (part_of p calling)
+is_above p node calling = is_prefix node (part_of p calling)
 
 abbrev pub IsAbove : ProblemParts → List ℕ → List ℕ → Type 0
-IsAbove p node calling = is_above p calling node ≡ true
+IsAbove p node calling = is_above p node calling ≡ true
 
 -- a node has steps of the problem alone, and is no longer than a part may be
 pub record IsValid (p : ProblemParts) (node : List ℕ) : Type 0 where
@@ -30,7 +30,7 @@ pub record IsValid (p : ProblemParts) (node : List ℕ) : Type 0 where
 
 -- how many of the nodes are above the touch
 abbrev pub nodes_above : ProblemParts → List (List ℕ) → List ℕ → ℕ
-nodes_above p nodes calling = count_by (is_above p calling) nodes
+nodes_above p nodes calling = count_by (λ node. is_above p node calling) nodes
 
 -- how often the touch was found
 abbrev pub times_found : List (List ℕ) → List ℕ → ℕ
@@ -44,7 +44,7 @@ pub record Covers (p : ProblemParts) (found nodes : List (List ℕ)) (calling : 
 -- no node begins a node at another position, and no node is above a touch that was found
 pub record Independent (p : ProblemParts) (found nodes : List (List ℕ)) : Type 0 where
   pub nodes_apart : (i j : ℕ) → i < length nodes → j < length nodes → i ≢ j → is_prefix (get_or nodes i []) (get_or nodes j []) ≡ false
-  pub found_apart : (i j : ℕ) → i < length nodes → j < length found → is_above p (get_or found j []) (get_or nodes i []) ≡ false
+  pub found_apart : (i j : ℕ) → i < length nodes → j < length found → is_above p (get_or nodes i []) (get_or found j []) ≡ false
 
 -- a job is split into what was found and what is left of it: nothing lost, nothing twice, nothing new
 pub record Splits (p : ProblemParts) (job found rest : List (List ℕ)) : Type 0 where

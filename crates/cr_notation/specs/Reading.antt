@@ -1,5 +1,5 @@
 -- Reading from left to right, one step a byte.
-use Rattle.std.specs.Prelude.{ℕ, ◌+◌, ◌-◌, ◌%◌, Bool, true, false, cond, nat_eq, nat_lt, nat_le, List, [], ◌∷◌, ◌++◌, length, Result, Ok, Err}
+use Rattle.std.specs.Prelude.{ℕ, ◌+◌, ◌-◌, ◌%◌, Bool, true, false, cond, nat_eq, nat_lt, nat_le, List, [], ◌∷◌, ◌++◌, length, take, Option, Some, None, Result, Ok, Err}
 use Rattle.cr_row.specs.Rows.{Places}
 use Rattle.cr_model.specs.declared.notation.NotationFault.{NotationFault}
 use Rattle.cr_model.specs.declared.notation.NotationFault.TheVariants.{Symbol, Above, Order, Gap, CrossOnOdd, Dot, EmptyBlock, SecondComma, Long}
@@ -14,6 +14,19 @@ pub record State : Type 0 where
   pub block : List Places
   pub named : List ℕ
   pub last : Last
+
+-- a list up to its first change that is too many, which tells that a text is too long
+unfoldable pub kept : List Places → List Places
+kept changes = take 129 changes
+
+-- what is kept of what was read
+abbrev pub kept_of : State → State
+kept_of s = record s { done = kept s.done; block = kept s.block }
+
+-- what is kept of what a step gives
+abbrev pub kept_read : Result State NotationFault → Result State NotationFault
+kept_read (Ok s) = Ok (kept_of s)
+kept_read (Err f) = Err f
 
 -- nothing was read yet
 abbrev pub fresh : State
@@ -44,6 +57,10 @@ named_after last.Nothing s k p = Ok (first_named s p)
 named_after (last.Dot d) s k p = Ok (first_named s p)
 named_after last.Cross s k p = Ok (first_named s p)
 named_after last.Group s k p = more_named s k p
+
+-- the change without places, where the stage has it
+abbrev pub cross_on : ℕ → Option Places
+cross_on n = cond (nat_eq (n % 2) 1) None (Some (change_of n crossing))
 
 -- the symbol of place p, at byte k
 unfoldable pub place_step : ℕ → State → ℕ → ℕ → Result State NotationFault

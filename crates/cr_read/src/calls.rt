@@ -1,9 +1,10 @@
 //! The checks of the calls: what they replace, their marks, their lengths, and that no two clash.
 
-ghost use Rattle.std.specs.Prelude.{◌≡◌, ◌≢◌, ℕ, ◌<◌, ◌≤◌, ◌↔◌, ◌+◌, ◌-◌, true, length, get_or, IsTrue, IfSome, MatchOption, MatchResult, unwrap_or, option_map, string_bytes};
+ghost use Rattle.std.specs.Prelude.{◌≡◌, ◌≢◌, ℕ, ◌<◌, ◌≤◌, ◌↔◌, ◌+◌, ◌-◌, true, length, get_or, IsTrue, IfSome, MatchOption, MatchResult, unwrap_or};
 ghost use Rattle.cr_model.specs.Faults.{IsFirstWrong};
 ghost use Rattle.cr_model.specs.ProblemFiles.{letters_of, call_at, mark_at, is_named, is_for, tune_at, over_at, called_tune, OverIsRight, MarkIsRight, Fits, FitsAll, AreApart};
-ghost use Rattle.cr_read.specs.Reading.{IsTuned, CallsAreRight, IsCallFault};
+ghost use Rattle.cr_model.specs.ProblemFiles.{CallsSpell, CallsPass, IsFileFault};
+ghost use Rattle.cr_read.specs.Reading.{IsTuned};
 
 use crate::file_parts::{CallText, File};
 use crate::keys::stands_in;
@@ -14,7 +15,7 @@ use cr_row::Change;
 
 // A call, by its index.
 #[tactic(auto, using(crate::proofs::CallFacts::call_is))]
-fn call_at(file: &File, call: usize) -> &CallText
+fn call_at<'a, 'b>(file: &'b File<'a>, call: usize) -> &'b CallText<'a>
     requires { call < length file.now.calls }
     ensures { result.now ≡ call_at file.now call }
 {
@@ -27,7 +28,7 @@ pub fn mark_of(file: &File, call: usize) -> u8
     ensures { result ≡ mark_at file.now call }
 {
     let text = call_at(file, call);
-    byte_of(text.mark.as_str())
+    byte_of(text.mark)
 }
 
 // How many changes a call replaces, if it says so.
@@ -39,11 +40,11 @@ fn over_of(file: &File, call: usize) -> Option<i64>
     text.over
 }
 
-// Whether a call that names these methods is for that with the letter.
-fn is_named(methods: &Option<String>, letter: u8) -> bool
-    ensures { result ≡ is_named (option_map string_bytes methods.now) letter }
+// Whether a call is for the method with the letter.
+fn is_named(call: &CallText, letter: u8) -> bool
+    ensures { result ≡ is_named call.now.methods letter }
 {
-    match methods {
+    match call.methods {
         Some(letters) => stands_in(letters.as_bytes(), letter),
         None => true,
     }
@@ -56,8 +57,7 @@ pub fn is_for(file: &File, letters: &[u8], call: usize, method: usize) -> bool
     requires there { method < length letters.now }
     ensures { result ≡ is_for file.now call method }
 {
-    let text = call_at(file, call);
-    is_named(&text.methods, letters[method])
+    is_named(call_at(file, call), letters[method])
 }
 
 fn over_is_right(file: &File, call: usize) -> bool
@@ -242,7 +242,8 @@ fn clash(file: &File, letters: &[u8]) -> Option<(u64, u64)>
 pub fn check_calls(file: &File, letters: &[u8], tunes: &Tunes) -> Result<(), ProblemFault>
     requires is { letters.now ≡ letters_of file.now }
     requires tuned { IsTuned file.now tunes.now }
-    ensures { MatchResult result (λ _. CallsAreRight file.now tunes.now) (IsCallFault file.now tunes.now) }
+    ensures { (n : ℕ) → CallsSpell file.now n tunes.now →
+        MatchResult result (λ _. CallsPass file.now n tunes.now) (IsFileFault file.now) }
 {
     if let Some(call) = wrong_over(file) {
         return Err(ProblemFault::Over(call));

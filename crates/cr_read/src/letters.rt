@@ -26,7 +26,7 @@ pub fn letters_of(alloc: Global, file: &File) -> Result<Vec<u8>, AllocError>
 {
     let mut letters = Vec::new(alloc);
     for method in &file.methods {
-        letters.push(byte_of(method.letter.as_str()))?;
+        letters.push(byte_of(method.letter))?;
     }
     Ok(letters)
 }

@@ -3,7 +3,7 @@
 ghost use Rattle.std.specs.Prelude.{◌≡◌, ◌≢◌, ◌⊎◌, [], Ok, Err, MatchResult, IfOk, IfErr};
 ghost use Rattle.toml.specs.View.{view};
 ghost use Rattle.cr_model.specs.Keys.{key_faults, members_in};
-ghost use Rattle.cr_model.specs.Files.{Reads, IsFile};
+ghost use Rattle.cr_model.specs.Files.{Reads};
 ghost use Rattle.cr_model.specs.declared.file_fault.ProblemFault.{ProblemFault};
 ghost use Rattle.cr_model.specs.declared.file_fault.ProblemFault.TheVariants as fault;
 ghost use Rattle.cr_model.specs.Problems.{ProblemParts};
@@ -11,7 +11,6 @@ ghost use Rattle.cr_model.specs.ProblemFiles.{ProblemFile, FirstProblemFault};
 ghost use Rattle.cr_read.specs.Reading.{NotRead, NotFile, NotProblem};
 
 use crate::file::file_of;
-use crate::file_parts::File;
 use crate::key_fault::KeyFault;
 use crate::keys::check_keys;
 use crate::laws::bytes_have_one_answer;
@@ -48,19 +47,12 @@ fn checked(alloc: Global, bytes: &[u8]) -> Result<Value, ProblemFault>
     }
 }
 
-// What the bytes say.
-fn read_file(alloc: Global, bytes: &[u8]) -> Result<File, ProblemFault>
-    ensures { MatchResult result (IsFile bytes.now) (NotFile bytes.now) }
-{
-    let root = checked(alloc, bytes)?;
-    Ok(file_of(alloc, &root)?)
-}
-
 // The problem of a file, or the first check that does not hold.
 fn read_bytes(alloc: Global, bytes: &[u8]) -> Result<Problem, ProblemFault>
     ensures { MatchResult result (ProblemFile bytes.now) (NotProblem bytes.now) }
 {
-    let file = read_file(alloc, bytes)?;
+    let root = checked(alloc, bytes)?;
+    let file = file_of(alloc, &root)?;
     problem_of(alloc, &file)
 }
 

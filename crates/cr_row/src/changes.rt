@@ -9,10 +9,13 @@ ghost use Rattle.cr_row.specs.PlaceFaults.{IsPlaceFault};
 
 use crate::faults::PlaceFault;
 use crate::stages::Stage;
+use crate::symbols::symbol;
+use std::fmt;
+use std::fmt::Write;
 use std::marker::Model;
 
 /// A change on 3 to 16 bells. Contracts see its stage and the ascending list of the places made.
-#[derive(Debug, Clone, Copy)]
+#[derive(Clone, Copy)]
 pub struct Change {
     // Four bits a place, the first place lowest: all set where the bell stays.
     stay: u64,
@@ -76,6 +79,20 @@ impl Change {
         ensures fits { result < 16 ^ self.now.stage }
     {
         (bits & self.stay) + ((bits & self.first) << 4) + ((bits >> 4) & self.first)
+    }
+}
+
+/// Its stage, and the symbols of the places made, as `4: 14`.
+impl fmt::Debug for Change {
+    fn fmt<W: fmt::Write>(&self, f: &mut fmt::Formatter<W>) -> fmt::Result {
+        let stage = self.stage().number();
+        write!(f, "{stage}: ")?;
+        for place in 1..stage + 1 {
+            if self.makes(place) {
+                write!(f, "{}", char::from(symbol(place)))?;
+            }
+        }
+        Ok(())
     }
 }
 

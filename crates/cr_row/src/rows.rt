@@ -7,11 +7,14 @@ ghost use Rattle.cr_row.specs.Packed.{bells_of, key_of, AreBells, Undone};
 
 use crate::changes::Change;
 use crate::stages::Stage;
+use crate::symbols::symbol;
 use std::cmp::Ordering;
+use std::fmt;
+use std::fmt::Write;
 use std::marker::Model;
 
 /// A row on 3 to 16 bells. Contracts see the list of its bells, from the first place on.
-#[derive(Debug, Clone, Copy)]
+#[derive(Clone, Copy)]
 #[tactic(auto, using(crate::specs::Packed::packed_back, crate::specs::Packed::bells_length))]
 pub struct Row {
     // One less than each bell, the first place lowest.
@@ -139,6 +142,16 @@ impl Row {
             bits: packed(bells),
             stage: bells.len() as u8,
         }
+    }
+}
+
+/// The symbols of its bells, as `2143`.
+impl fmt::Debug for Row {
+    fn fmt<W: fmt::Write>(&self, f: &mut fmt::Formatter<W>) -> fmt::Result {
+        for place in 1..self.stage().number() + 1 {
+            write!(f, "{}", char::from(symbol(self.bell_at(place))))?;
+        }
+        Ok(())
     }
 }
 

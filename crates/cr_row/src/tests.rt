@@ -1,5 +1,6 @@
 use super::*;
 use std::alloc::Global;
+use std::fmt::Write;
 use std::test::*;
 
 // The row of these bells.
@@ -21,7 +22,7 @@ fn only_rows_are_rows(rt: HostRuntime) {
         &[1, 2, 3, 4, 5, 6, 7, 8, 9, 10, 11, 12, 13, 14, 15, 16, 17],
     ];
     for bells in refused {
-        assert!(rt; Row::of(bells).is_none());
+        assert!(rt; Row::of(bells).is_none(), "{bells:?}");
     }
 }
 
@@ -45,7 +46,11 @@ fn places_are_checked_in_order(rt: HostRuntime) -> Result<(), Fail> {
     ];
     for (number, places, want) in table {
         let stage = Stage::new(number).ok_or("the stage is from 3 to 16")?;
-        assert_eq!(rt; Change::from_places(stage, places).err(), want, "{number}");
+        assert_eq!(rt;
+            Change::from_places(stage, places).err(),
+            want,
+            "{number}: {places:?}"
+        );
     }
     Ok(())
 }
@@ -87,7 +92,7 @@ fn rows_after_a_change(rt: HostRuntime) -> Result<(), Fail> {
         let change = Change::from_places(stage, places)
             .ok()
             .ok_or("the places are those of a change")?;
-        assert_eq!(rt; from.then(&change), row(to)?, "{}", stage.number());
+        assert_eq!(rt; from.then(&change), row(to)?, "{from:?} by {change:?}");
     }
     Ok(())
 }
@@ -104,6 +109,33 @@ fn products_and_inverses(rt: HostRuntime) -> Result<(), Fail> {
     assert_eq!(rt; back.inverse(), turned);
     assert_eq!(rt; Row::rounds(turned.stage()), row(&[1, 2, 3, 4])?);
     assert!(rt; turned < back && row(&[3, 2, 1])? < turned);
+    Ok(())
+}
+
+#[test]
+fn what_is_shown(rt: HostRuntime) -> Result<(), Fail> {
+    let stage = Stage::new(12).ok_or("the stage is from 3 to 16")?;
+    let change = Change::from_places(stage, &[1, 12])
+        .ok()
+        .ok_or("the places are those of a change")?;
+    let mut text = String::new(rt.alloc());
+    write!(
+        text,
+        "{:?} {change:?} {}",
+        Row::rounds(stage),
+        PlaceFault::Gap(5)
+    )?;
+    assert_eq!(rt;
+        text.as_str(),
+        "1234567890ET 12: 1T an odd number of places stands before place 5"
+    );
+    Ok(())
+}
+
+#[test]
+fn keys_of_rows(rt: HostRuntime) -> Result<(), Fail> {
+    assert_eq!(rt; row(&[2, 1, 3])?.key(), 0x201);
+    assert_eq!(rt; row(&[1, 4, 2, 3])?.key(), 0x2130);
     Ok(())
 }
 

@@ -1,5 +1,0 @@
-use Rattle.cr_model.proofs.Counting.{split_covers}
-use Rattle.cr_model.proofs.laws.a_split_covers_the_same.Goals as goal
-
-pub returns : goal.returns
-returns c = split_covers

@@ -1,5 +1,0 @@
-use Rattle.cr_model.proofs.Prefixes.{prefix_iff}
-use Rattle.cr_model.proofs.laws.prefixes.Goals as goal
-
-pub returns : goal.returns
-returns c = prefix_iff

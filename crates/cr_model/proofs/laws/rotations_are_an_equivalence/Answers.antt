@@ -1,5 +1,0 @@
-use Rattle.cr_model.proofs.Rotations.{itself, back, onward}
-use Rattle.cr_model.proofs.laws.rotations_are_an_equivalence.Goals as goal
-
-pub returns : goal.returns
-returns c = record { itself = itself; back = back; onward = onward }
