@@ -11,9 +11,7 @@ use crate::Status;
 use crate::piece::Piece;
 use crate::piece::Piece::*;
 use cr_io::{Sink, WriteFault, write_whole};
-use cr_model::NotationFault;
-use cr_model::fault::CountAt;
-use cr_model::file_fault::{ProblemFault, Whose};
+use cr_model::{CountAt, NotationFault, ProblemFault, Whose};
 use itoa::Buffer;
 
 // Appends a text.

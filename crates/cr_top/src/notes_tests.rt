@@ -3,10 +3,8 @@
 use crate::Status::{self, Problem};
 use crate::notes::write_note;
 use cr_io::{MemSink, SureSink};
-use cr_model::NotationFault;
-use cr_model::fault::CountAt;
-use cr_model::file_fault::ProblemFault::*;
-use cr_model::file_fault::{KeyPath, Whose};
+use cr_model::ProblemFault::*;
+use cr_model::{CountAt, KeyPath, NotationFault, Whose};
 use std::test::Fail;
 
 // Nothing where this line was written, and else the line.

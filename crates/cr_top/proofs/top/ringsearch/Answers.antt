@@ -1,4 +1,3 @@
-use Rattle.std.proofs.Common.{subst}
 use Rattle.cr_top.proofs.Completeness.{says, finishes, refuses, no_write_fault}
 use Rattle.cr_top.proofs.top.ringsearch.Goals as goal
 
