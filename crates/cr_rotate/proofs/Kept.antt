@@ -23,7 +23,7 @@ repeats_alike word other n p same front = record {
   );
 }
 
-pub turns_alike : (word other : List ℕ) (n : ℕ) → ((i : ℕ) → i < n → get_or word i 0 ≡ get_or other i 0) → FrontTurns word n → FrontTurns other n
+turns_alike : (word other : List ℕ) (n : ℕ) → ((i : ℕ) → i < n → get_or word i 0 ≡ get_or other i 0) → FrontTurns word n → FrontTurns other n
 turns_alike word other n same turned =
     let k = turned.0 in
     let j = turned.1 in

@@ -9,7 +9,6 @@ use Rattle.cr_model.specs.Turning.{TurnsBack, IsLeastRotation, IsPeriod}
 use Rattle.cr_rotate.specs.Fronts.{Rises, FrontTurns, FrontRepeats, Tells}
 use Rattle.cr_rotate.proofs.Lists.{less_at, first_place}
 use Rattle.cr_rotate.proofs.Periods.{at, turns, still_turned, goes_on, begins_anew, first_step, not_both}
-use Rattle.cr_rotate.proofs.Kept.{turns_alike}
 use Rattle.cr_rotate.proofs.WholeFronts.{falls, turned_back}
 
 -- a step some whole periods later
@@ -251,9 +250,3 @@ least_rotations word period one = by (whole_front word (length word - 1) (omega 
           λ least. (λ turned. not_both word (length word) found.0 found.1 (falls word turned), subst (λ p. length word % p ≡ 0) same (whole_where_least word found.0 found.1 least)),
           λ h. least_where_whole word found.0 found.1 (subst (λ p. length word % p ≡ 0) (sym same) h.1),
         )
-
--- a word that turns back begins no least rotation
-pub no_least_beyond : (word rest : List ℕ) → TurnsBack word → IsLeastRotation (word ++ rest) → ⊥
-no_least_beyond word rest turned =
-    never_least (word ++ rest) (still_turned (word ++ rest) (length word) (length (word ++ rest)) (omega (arith, length-append word rest))
-    (turns_alike word (word ++ rest) (length word) (λ i low. sym (get_or_append_left word rest 0 i low)) (falls word turned)))

@@ -1,6 +1,6 @@
 //! Laws of rotations. Each is the contract of a function that does nothing.
 
-ghost use Rattle.std.specs.Prelude.{◌≡◌, ℕ, ◌%◌, ◌<◌, ◌↔◌, List, ◌++◌, length};
+ghost use Rattle.std.specs.Prelude.{◌≡◌, ℕ, ◌%◌, ◌<◌, ◌↔◌, List, length};
 ghost use Rattle.cr_model.specs.Queries.{repeated};
 ghost use Rattle.cr_model.specs.Turning.{TurnsBack, IsLeastRotation, IsPeriod};
 
@@ -15,9 +15,4 @@ pub fn least_rotations_are_whole_periods()
 pub fn repeated_words_are_least_where_the_word_is()
     ensures { (number : ℕ) (word : List ℕ) → 0 < number
         → IsLeastRotation (repeated number word) ↔ IsLeastRotation word }
-{}
-
-/// A word that turns back begins none that is the least of its rotations.
-pub fn what_turns_back_begins_no_least_rotation()
-    ensures { (word rest : List ℕ) → TurnsBack word → IsLeastRotation (word ++ rest) → ⊥ }
 {}
