@@ -11,7 +11,7 @@ use Rattle.cr_row.specs.Rows.{rounds}
 use Rattle.cr_model.specs.declared.query.Com.{Com}
 use Rattle.cr_model.specs.Problems.{ProblemParts}
 use Rattle.cr_model.specs.Callings.{AllDiffer, HasSteps, TrueTouch, rows_of, head_of, length_of}
-use Rattle.cr_model.specs.Decided.{rows_differ, has_leads, has_steps, is_true_touch, is_within, meets_com, is_long, is_short, has_parts, meets_count, meets_method_count, meets_pattern, meets, is_wanted}
+use Rattle.cr_model.specs.Decided.{rows_differ, has_leads, has_steps, is_true_touch, is_within, meets_com, reaches_min, within_cap, has_parts, meets_count, meets_method_count, meets_pattern, meets, is_wanted}
 use Rattle.cr_model.specs.Queries.{cap, IsWithin, repeated, leads_marked, leads_lettered, rows_fitting, changes_of_method, MeetsCom, Meets}
 use Rattle.cr_model.specs.Nodes.{part_of}
 use Rattle.cr_model.specs.Touches.{Wanted}
@@ -26,14 +26,14 @@ differ_decided : (row other : List ℕ) → Decides (not (bytes_eq row other)) (
 differ_decided row other = Decides-not (bytes_eq row other) (bytes_eq-Decides row other)
 
 -- a row that differs from rows that differ, in front of them
-one_more_differs : (row : List ℕ) (rows : List (List ℕ)) → All (λ other. row ≢ other) rows × AllDiffer rows → AllDiffer (row ∷ rows)
+pub one_more_differs : (row : List ℕ) (rows : List (List ℕ)) → All (λ other. row ≢ other) rows × AllDiffer rows → AllDiffer (row ∷ rows)
 one_more_differs row rows h zero zero less inside = absurd (omega arith)
 one_more_differs row rows h zero (suc j) less inside = h.0 j [] (omega arith)
 one_more_differs row rows h (suc i) zero less inside = absurd (omega arith)
 one_more_differs row rows h (suc i) (suc j) less inside = h.1 i j (omega arith) (omega arith)
 
 -- and back
-one_less_differs : (row : List ℕ) (rows : List (List ℕ)) → AllDiffer (row ∷ rows) → All (λ other. row ≢ other) rows × AllDiffer rows
+pub one_less_differs : (row : List ℕ) (rows : List (List ℕ)) → AllDiffer (row ∷ rows) → All (λ other. row ≢ other) rows × AllDiffer rows
 one_less_differs row rows h = (
   All-from_get_or (λ other. row ≢ other) rows [] (λ k inside. h zero (suc k) (omega arith) (omega arith)),
   λ i j less inside. h (suc i) (suc j) (omega arith) (omega arith),
@@ -90,8 +90,8 @@ meets_decided p calling =
     Decides-like (meets p calling)
     (λ h. record { long = h.0; short = h.1.0; parts = h.1.1.0; counts = h.1.1.1.0; method_counts = h.1.1.1.1.0; patterns = h.1.1.1.1.1.0; «com» = h.1.1.1.1.1.1 })
     (λ m. (m.long, (m.short, (m.parts, (m.counts, (m.method_counts, (m.patterns, m.com)))))))
-    (Decides-and (is_long p calling) _ (int_le_decided p.query.min (pos (length_of p calling)))
-    (Decides-and (is_short p calling) _ (leb-true (length_of p calling) (cap p), le-leb (length_of p calling) (cap p))
+    (Decides-and (reaches_min p calling) _ (int_le_decided p.query.min (pos (length_of p calling)))
+    (Decides-and (within_cap p calling) _ (leb-true (length_of p calling) (cap p), le-leb (length_of p calling) (cap p))
     (Decides-and (has_parts p calling) _ (has_parts_decided p calling)
     (Decides-and (list_all (meets_count p calling) p.query.counts) _ (all_decided (meets_count p calling) (λ count. IsWithin count.min count.max (leads_marked p count.mark calling)) (λ count. is_within_decided count.min count.max (leads_marked p count.mark calling)) p.query.counts)
     (Decides-and (list_all (meets_method_count p calling) p.query.method_counts) _ (all_decided (meets_method_count p calling) (λ count. IsWithin count.min count.max (leads_lettered p count.letter calling)) (λ count. is_within_decided count.min count.max (leads_lettered p count.letter calling)) p.query.method_counts)

@@ -10,11 +10,11 @@ use Rattle.std.proofs.lemmas.Map.Keys.{sorted_head, sorted_tail}
 use Rattle.cr_model.proofs.InOrder.{contains_cases, contains_more, none_held}
 
 -- the first element is held
-held_first : {X : Type 0} (x : X) (xs : List X) → Contains (x ∷ xs) x
+pub held_first : {X : Type 0} (x : X) (xs : List X) → Contains (x ∷ xs) x
 held_first x xs = (zero, omega arith, refl)
 
 -- what holds of all that is held holds of each
-all_from_held : {X : Type 0} (P : X → Type 0) (xs : List X) → ((x : X) → Contains xs x → P x) → All P xs
+pub all_from_held : {X : Type 0} (P : X → Type 0) (xs : List X) → ((x : X) → Contains xs x → P x) → All P xs
 all_from_held P xs each k d inside = each (get_or xs k d) (Contains-get_or xs k d inside)
 
 module _ {X : Type 0} {R : X → X → Ordering} (o : IsTotalOrder R) (one : (x y : X) → R x y ≡ Equal → x ≡ y) where
@@ -111,7 +111,7 @@ module _ {X : Type 0} {R : X → X → Ordering} (o : IsTotalOrder R) (one : (x 
       )
 
 -- an element of a mapped list
-held_mapped : {X Y : Type 0} (f : X → Y) (x : X) (xs : List X) → Contains xs x → Contains (map f xs) (f x)
+pub held_mapped : {X Y : Type 0} (f : X → Y) (x : X) (xs : List X) → Contains xs x → Contains (map f xs) (f x)
 held_mapped f x [] held = absurd (none_held x held)
 held_mapped f x (y ∷ xs) held = elim (contains_cases y x xs held) [
   | inl e ↦ subst (λ z. Contains (map f (y ∷ xs)) (f z)) e (held_first (f y) (map f xs))
@@ -119,7 +119,7 @@ held_mapped f x (y ∷ xs) held = elim (contains_cases y x xs held) [
 ]
 
 -- an element of one of the joined lists
-held_joined : {X Y : Type 0} (f : X → List Y) (x : X) (z : Y) (xs : List X) → Contains xs x → Contains (f x) z → Contains (flat_map f xs) z
+pub held_joined : {X Y : Type 0} (f : X → List Y) (x : X) (z : Y) (xs : List X) → Contains xs x → Contains (f x) z → Contains (flat_map f xs) z
 held_joined f x z [] held inside = absurd (none_held x held)
 held_joined f x z (y ∷ xs) held inside = elim (contains_cases y x xs held) [
   | inl e ↦ Contains-append_left (f y) (flat_map f xs) z (subst (λ w. Contains (f w) z) (sym e) inside)

@@ -90,8 +90,11 @@ pub record TrueTouch (p : ProblemParts) (calling : List ℕ) : Type 0 where
   pub differ : AllDiffer (rows_of p calling)
 
 -- the lead at an index, by its parts
-pub step_at_is : (leads : List LeadParts) (i : ℕ) (lead : LeadParts) → i < length leads → lead ≡ get_or leads i lead → lead.step ≡ step_at leads i
-step_at_is leads i lead h e = ap (λ l. l.step) e ∙ sym (get_or-map (λ l. l.step) leads i lead (record { method = 0; mark = 0 }) h)
+pub step_at_is : (leads : List LeadParts) (i : ℕ) (lead : LeadParts)
+    → i < length leads → lead ≡ get_or leads i lead → lead.step ≡ step_at leads i
+step_at_is leads i lead h e =
+    ap (λ l. l.step) e ∙ sym (get_or-map (λ l. l.step) leads i lead (record { method = 0; mark = 0 }) h)
 
-pub changes_at_is : (leads : List LeadParts) (i : ℕ) (lead : LeadParts) → i < length leads → lead ≡ get_or leads i lead → lead.changes ≡ changes_at leads i
+pub changes_at_is : (leads : List LeadParts) (i : ℕ) (lead : LeadParts)
+    → i < length leads → lead ≡ get_or leads i lead → lead.changes ≡ changes_at leads i
 changes_at_is leads i lead h e = ap (λ l. l.changes) e ∙ sym (get_or-map (λ l. l.changes) leads i lead [] h)

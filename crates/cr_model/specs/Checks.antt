@@ -47,4 +47,7 @@ AnswersAll checks result = MatchResult result (λ _. AllHold checks) (IsFirstFai
 
 -- a check whose faults have other names
 abbrev pub renamed : {Fault Other : Type 0} → (Fault → Other) → Check Fault → Check Other
-renamed {Fault} name check = record { holds = check.holds; fails = λ other. (fault : Fault) × (other ≡ name fault) × check.fails fault }
+renamed {Fault} name check = record {
+  holds = check.holds;
+  fails = λ other. (fault : Fault) × (other ≡ name fault) × check.fails fault;
+}

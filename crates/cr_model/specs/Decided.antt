@@ -40,12 +40,12 @@ meets_com None number = true
 meets_com (Some limits) number = is_within limits.min limits.max number
 
 -- at least the least length
-abbrev pub is_long : ProblemParts → List ℕ → Bool
-is_long p calling = int_le p.query.min (pos (length_of p calling))
+abbrev pub reaches_min : ProblemParts → List ℕ → Bool
+reaches_min p calling = int_le p.query.min (pos (length_of p calling))
 
 -- at most the greatest length
-abbrev pub is_short : ProblemParts → List ℕ → Bool
-is_short p calling = nat_le (length_of p calling) (cap p)
+abbrev pub within_cap : ProblemParts → List ℕ → Bool
+within_cap p calling = nat_le (length_of p calling) (cap p)
 
 -- so many times its part
 abbrev pub has_parts : ProblemParts → List ℕ → Bool
@@ -66,8 +66,8 @@ meets_pattern p calling pattern = is_within pattern.min pattern.max (rows_fittin
 -- the calling meets the query
 abbrev pub meets : ProblemParts → List ℕ → Bool
 meets p calling =
-    is_long p calling
-    && (is_short p calling
+    reaches_min p calling
+    && (within_cap p calling
     && (has_parts p calling
     && (list_all (meets_count p calling) p.query.counts
     && (list_all (meets_method_count p calling) p.query.method_counts

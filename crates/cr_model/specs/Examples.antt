@@ -80,3 +80,34 @@ near_misses =
     ∷ record exact { «com» = Some (com_from 0 0) }
     ∷ record exact { «com» = Some (com_from 2 2) }
     ∷ []
+
+-- Plain Bob Doubles: step 0 is a plain lead, 5.1.5.1.5.1.5.1.5.125, and step 1 ends with the call 145
+abbrev pub on_five : List ℕ → Places
+on_five made = record { stage = 5; made = made }
+
+abbrev pub doubles_lead : ℕ → List ℕ → LeadParts
+doubles_lead mark made = record {
+  step = record { method = 0; mark = mark };
+  changes = map on_five ((5 ∷ []) ∷ (1 ∷ []) ∷ (5 ∷ []) ∷ (1 ∷ []) ∷ (5 ∷ []) ∷ (1 ∷ []) ∷ (5 ∷ []) ∷ (1 ∷ []) ∷ (5 ∷ []) ∷ made ∷ []);
+}
+
+abbrev pub doubles : ProblemParts
+doubles = record {
+  stage = 5;
+  letters = 65 ∷ [];
+  leads = doubles_lead 112 (1 ∷ 2 ∷ 5 ∷ []) ∷ doubles_lead 98 (1 ∷ 4 ∷ 5 ∷ []) ∷ [];
+  query = asks 1 120 1;
+}
+
+-- three leads on four bells: the plain lead; one of three changes, with rounds in its middle; and one with a row twice, since its last change makes all places
+abbrev pub faulty : ProblemParts
+faulty = record {
+  stage = 4;
+  letters = 65 ∷ [];
+  leads =
+      plain_of 0
+      ∷ record { step = record { method = 0; mark = 114 }; changes = map on_four ([] ∷ [] ∷ (1 ∷ 4 ∷ []) ∷ []) }
+      ∷ lead_of 0 115 (1 ∷ 2 ∷ 3 ∷ 4 ∷ [])
+      ∷ [];
+  query = asks 1 24 1;
+}

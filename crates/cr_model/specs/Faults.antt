@@ -13,17 +13,20 @@ use Rattle.cr_model.specs.Right.{LetterIsRight, LettersAreRight, LeadIsRight, Le
 
 -- there are no letters, or this one is the first that is wrong
 abbrev pub LettersWrongAt : List ℕ → ℕ → Type 0
-LettersWrongAt letters index = ((length letters ≡ 0) × (index ≡ 0)) ⊎ IsFirstWrong (LetterIsRight letters) (length letters) index
+LettersWrongAt letters index =
+    ((length letters ≡ 0) × (index ≡ 0)) ⊎ IsFirstWrong (LetterIsRight letters) (length letters) index
 
 -- some method has no lead
 abbrev pub SomeUnled : ℕ → List LeadParts → Type 0
-SomeUnled methods leads = (method : ℕ) × (method < methods) × ((i : ℕ) → i < length leads → (step_at leads i).method ≢ method)
+SomeUnled methods leads =
+    (method : ℕ) × (method < methods) × ((i : ℕ) → i < length leads → (step_at leads i).method ≢ method)
 
 -- this lead is the first that is wrong, or none is and some method has no lead: then it is the leads' number
 abbrev pub LeadsWrongAt : ℕ → ℕ → List LeadParts → ℕ → Type 0
 LeadsWrongAt stage methods leads index =
     IsFirstWrong (LeadIsRight stage methods leads) (length leads) index ⊎
-    ((index ≡ length leads) × ((i : ℕ) → i < length leads → LeadIsRight stage methods leads i) × SomeUnled methods leads)
+    ((index ≡ length leads) × ((i : ℕ) → i < length leads → LeadIsRight stage methods leads i)
+    × SomeUnled methods leads)
 
 -- the letters
 abbrev pub letters_check : ProblemParts → Check PartFault
@@ -57,16 +60,21 @@ parts_check p = one_fault ((pos 1 ≤ℤ p.query.parts) × (p.query.parts ≤ℤ
 
 -- the counts of marks
 abbrev pub counts_check : ProblemParts → Check PartFault
-counts_check p = each_index (λ i. CountIsRight p.leads i (count_at p.query.counts i)) (length p.query.counts) (λ i. fault.Count (counted.Mark i))
+counts_check p =
+    each_index (λ i. CountIsRight p.leads i (count_at p.query.counts i)) (length p.query.counts)
+    (λ i. fault.Count (counted.Mark i))
 
 -- the counts of methods
 abbrev pub method_counts_check : ProblemParts → Check PartFault
 method_counts_check p =
-    each_index (λ i. MethodCountIsRight p.letters i (method_count_at p.query.method_counts i)) (length p.query.method_counts) (λ i. fault.Count (counted.Method i))
+    each_index (λ i. MethodCountIsRight p.letters i (method_count_at p.query.method_counts i)) (length p.query.method_counts)
+    (λ i. fault.Count (counted.Method i))
 
 -- the patterns
 abbrev pub patterns_check : ProblemParts → Check PartFault
-patterns_check p = each_index (λ i. PatternIsRight p.stage i (pattern_at p.query.patterns i)) (length p.query.patterns) (λ i. fault.Pattern i)
+patterns_check p =
+    each_index (λ i. PatternIsRight p.stage i (pattern_at p.query.patterns i)) (length p.query.patterns)
+    (λ i. fault.Pattern i)
 
 -- the limits on changes of method
 abbrev pub com_check : ProblemParts → Check PartFault

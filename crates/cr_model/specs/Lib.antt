@@ -6,6 +6,9 @@ pub mod Touches
 pub mod Nodes
 pub mod Decided
 pub mod Turning
+pub mod Levels
+pub mod Dead
+pub mod Sizes
 pub mod Books
 pub mod Checks
 pub mod Limits

@@ -1,6 +1,5 @@
 -- A problem as the record of its parts: the stage, the methods' letters, the leads, and the query.
 use Rattle.std.specs.Prelude.{◌≡◌, ℕ, ℤ, List, Option}
-use Rattle.std.proofs.Common.{ap, ◌∙◌}
 use Rattle.cr_row.specs.Rows.{Places}
 use Rattle.cr_model.specs.declared.query.Count.{Count}
 use Rattle.cr_model.specs.declared.query.MethodCount.{MethodCount}
@@ -40,20 +39,19 @@ parts_from stage letters leads query = record { stage = stage; letters = letters
 
 -- parts that agree are one
 pub same_lead_parts : (a b : LeadParts) → a.step ≡ b.step → a.changes ≡ b.changes → a ≡ b
-same_lead_parts a b step changes = ap (λ s. record { step = s; changes = a.changes }) step ∙ ap (λ cs. record { step = b.step; changes = cs }) changes
+same_lead_parts a b step changes = λ i. record { step = step i; changes = changes i }
 
 pub same_pattern_parts : (a b : PatternParts) → a.cells ≡ b.cells → a.min ≡ b.min → a.max ≡ b.max → a ≡ b
-same_pattern_parts a b cells low high =
-    ap (λ cs. record { cells = cs; min = a.min; max = a.max }) cells
-    ∙ ap (λ n. record { cells = b.cells; min = n; max = a.max }) low
-    ∙ ap (λ n. record { cells = b.cells; min = b.min; max = n }) high
+same_pattern_parts a b cells low high = λ i. record { cells = cells i; min = low i; max = high i }
 
-pub same_query_parts : (a b : QueryParts) → a.min ≡ b.min → a.max ≡ b.max → a.parts ≡ b.parts → a.counts ≡ b.counts → a.method_counts ≡ b.method_counts → a.patterns ≡ b.patterns → a.com ≡ b.com → a ≡ b
-same_query_parts a b low high parts counts method_counts patterns limits =
-    ap (λ n. record { min = n; max = a.max; parts = a.parts; counts = a.counts; method_counts = a.method_counts; patterns = a.patterns; «com» = a.com }) low
-    ∙ ap (λ n. record { min = b.min; max = n; parts = a.parts; counts = a.counts; method_counts = a.method_counts; patterns = a.patterns; «com» = a.com }) high
-    ∙ ap (λ n. record { min = b.min; max = b.max; parts = n; counts = a.counts; method_counts = a.method_counts; patterns = a.patterns; «com» = a.com }) parts
-    ∙ ap (λ xs. record { min = b.min; max = b.max; parts = b.parts; counts = xs; method_counts = a.method_counts; patterns = a.patterns; «com» = a.com }) counts
-    ∙ ap (λ xs. record { min = b.min; max = b.max; parts = b.parts; counts = b.counts; method_counts = xs; patterns = a.patterns; «com» = a.com }) method_counts
-    ∙ ap (λ xs. record { min = b.min; max = b.max; parts = b.parts; counts = b.counts; method_counts = b.method_counts; patterns = xs; «com» = a.com }) patterns
-    ∙ ap (λ o. record { min = b.min; max = b.max; parts = b.parts; counts = b.counts; method_counts = b.method_counts; patterns = b.patterns; «com» = o }) limits
+pub same_query_parts : (a b : QueryParts) → a.min ≡ b.min → a.max ≡ b.max → a.parts ≡ b.parts
+    → a.counts ≡ b.counts → a.method_counts ≡ b.method_counts → a.patterns ≡ b.patterns → a.com ≡ b.com → a ≡ b
+same_query_parts a b low high parts counts method_counts patterns limits = λ i. record {
+  min = low i;
+  max = high i;
+  parts = parts i;
+  counts = counts i;
+  method_counts = method_counts i;
+  patterns = patterns i;
+  «com» = limits i;
+}

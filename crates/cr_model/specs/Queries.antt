@@ -37,7 +37,8 @@ leads_marked p mark calling = count_by (λ step. nat_eq (mark_of p step) mark) c
 abbrev pub leads_lettered : ProblemParts → ℕ → List ℕ → ℕ
 leads_lettered p letter calling = count_by (λ step. nat_eq (letter_of p step) letter) calling
 
--- cells fit a row, read from the first place: a bell fits itself, `Any` fits one bell, `Run` fits any number of bells, none included
+-- cells fit a row, read from the first place: a bell fits itself, `Any` fits one bell, `Run` fits any number of
+-- bells, none included
 abbrev pub fits : List Cell → List ℕ → Bool
 fits [] [] = true
 fits [] (bell ∷ bells) = false
@@ -45,7 +46,8 @@ fits (cell.Bell b ∷ cells) [] = false
 fits (cell.Bell b ∷ cells) (bell ∷ bells) = nat_eq b bell && fits cells bells
 fits (cell.Any ∷ cells) [] = false
 fits (cell.Any ∷ cells) (bell ∷ bells) = fits cells bells
-fits (cell.Run ∷ cells) bells = list_any (λ number. fits cells (drop number bells)) (range_with_len 0 (length bells + 1))
+fits (cell.Run ∷ cells) bells =
+    list_any (λ number. fits cells (drop number bells)) (range_with_len 0 (length bells + 1))
 
 -- how many rows fit the cells
 abbrev pub rows_fitting : List Cell → List (List ℕ) → ℕ
@@ -55,7 +57,8 @@ rows_fitting cells rows = count_by (fits cells) rows
 abbrev pub changes_of_method : ProblemParts → List ℕ → ℕ
 changes_of_method p [] = 0
 changes_of_method p (step ∷ []) = 0
-changes_of_method p (step ∷ next ∷ steps) = cond (nat_eq (method_of p step) (method_of p next)) 0 1 + changes_of_method p (next ∷ steps)
+changes_of_method p (step ∷ next ∷ steps) =
+    cond (nat_eq (method_of p step) (method_of p next)) 0 1 + changes_of_method p (next ∷ steps)
 
 -- a limit on changes of method, if there is one
 abbrev pub MeetsCom : Option Com → ℕ → Type 0
@@ -68,6 +71,8 @@ pub record Meets (p : ProblemParts) (calling : List ℕ) : Type 0 where
   pub short : length_of p calling ≤ cap p
   pub parts : (word : List ℕ) × (calling ≡ repeated (nat_abs p.query.parts) word)
   pub counts : All (λ count. IsWithin count.min count.max (leads_marked p count.mark calling)) p.query.counts
-  pub method_counts : All (λ count. IsWithin count.min count.max (leads_lettered p count.letter calling)) p.query.method_counts
-  pub patterns : All (λ pattern. IsWithin pattern.min pattern.max (rows_fitting pattern.cells (rows_of p calling))) p.query.patterns
+  pub method_counts :
+      All (λ count. IsWithin count.min count.max (leads_lettered p count.letter calling)) p.query.method_counts
+  pub patterns :
+      All (λ pattern. IsWithin pattern.min pattern.max (rows_fitting pattern.cells (rows_of p calling))) p.query.patterns
   pub «com» : MeetsCom p.query.com (changes_of_method p calling)

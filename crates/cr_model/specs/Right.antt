@@ -32,7 +32,8 @@ IsNextMark before mark = (mark ≢ plain) × ((before ≡ plain) ⊎ (before < m
 
 -- a step follows another: of the same method with a later mark, or the next method's plain lead
 abbrev pub IsNextStep : Step → Step → Type 0
-IsNextStep before step = ((step.method ≡ before.method) × IsNextMark before.mark step.mark) ⊎ ((step.method ≡ before.method + 1) × (step.mark ≡ plain))
+IsNextStep before step =
+    ((step.method ≡ before.method) × IsNextMark before.mark step.mark) ⊎ ((step.method ≡ before.method + 1) × (step.mark ≡ plain))
 
 -- the step at an index: the first method's plain lead, and later one that follows the one before
 pub record StepIsRight (leads : List LeadParts) (i : ℕ) : Type 0 where
@@ -99,7 +100,8 @@ cell_at cells i = get_or cells i cell.Any
 
 -- with no run there are as many cells as bells, and with one no more others than bells
 abbrev pub FitsStage : ℕ → List Cell → Type 0
-FitsStage stage cells = ((count_by is_run cells ≡ 0) × (length cells ≡ stage)) ⊎ ((count_by is_run cells ≡ 1) × (length cells ≤ stage + 1))
+FitsStage stage cells =
+    ((count_by is_run cells ≡ 0) × (length cells ≡ stage)) ⊎ ((count_by is_run cells ≡ 1) × (length cells ≤ stage + 1))
 
 -- each bell named is one of the stage
 abbrev pub AreBellsOf : ℕ → List Cell → Type 0

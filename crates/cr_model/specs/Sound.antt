@@ -1,5 +1,5 @@
 -- What every problem keeps.
-use Rattle.std.specs.Prelude.{◌/◌, ◌≤◌, pos, ◌≤ℤ◌, length, Result, MatchResult}
+use Rattle.std.specs.Prelude.{ℕ, ◌/◌, ◌<◌, ◌≤◌, pos, ◌≤ℤ◌, length, Result, MatchResult}
 use Rattle.cr_model.specs.declared.fault.PartFault.{PartFault}
 use Rattle.cr_model.specs.Problems.{ProblemParts}
 use Rattle.cr_model.specs.Callings.{shortest}
@@ -38,3 +38,18 @@ sound_depth p sound = sound.checks.1.1.1.1.0
 
 pub sound_parts : (p : ProblemParts) → IsSound p → (pos 1 ≤ℤ p.query.parts) × (p.query.parts ≤ℤ pos most_parts)
 sound_parts p sound = sound.checks.1.1.1.1.1.0
+
+pub sound_counts : (p : ProblemParts) → IsSound p
+    → (i : ℕ) → i < length p.query.counts → CountIsRight p.leads i (count_at p.query.counts i)
+sound_counts p sound = sound.checks.1.1.1.1.1.1.0
+
+pub sound_method_counts : (p : ProblemParts) → IsSound p
+    → (i : ℕ) → i < length p.query.method_counts → MethodCountIsRight p.letters i (method_count_at p.query.method_counts i)
+sound_method_counts p sound = sound.checks.1.1.1.1.1.1.1.0
+
+pub sound_patterns : (p : ProblemParts) → IsSound p
+    → (i : ℕ) → i < length p.query.patterns → PatternIsRight p.stage i (pattern_at p.query.patterns i)
+sound_patterns p sound = sound.checks.1.1.1.1.1.1.1.1.0
+
+pub sound_com : (p : ProblemParts) → IsSound p → ComIsRight p.query.com
+sound_com p sound = sound.checks.1.1.1.1.1.1.1.1.1.0

@@ -142,7 +142,8 @@ fn same_patterns(patterns: &[Pattern], others: &[Pattern]) -> bool
 }
 
 fn same_numbers(query: &Query, other: &Query) -> bool
-    ensures { IsTrue result ↔ ((query.now.min ≡ other.now.min) × (query.now.max ≡ other.now.max) × (query.now.parts ≡ other.now.parts)) }
+    ensures { IsTrue result ↔
+        ((query.now.min ≡ other.now.min) × (query.now.max ≡ other.now.max) × (query.now.parts ≡ other.now.parts)) }
 {
     query.min == other.min && query.max == other.max && query.parts == other.parts
 }

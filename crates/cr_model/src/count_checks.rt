@@ -59,7 +59,8 @@ fn method_count_is_right(letters: &[u8], index: usize, count: MethodCount) -> bo
 
 /// The first method count that is wrong.
 pub fn wrong_method_count(letters: &[u8], counts: &[MethodCount]) -> Option<u64>
-    ensures { TellsFirst (λ i. MethodCountIsRight letters.now i (method_count_at counts.now i)) (length counts.now) result }
+    ensures { TellsFirst
+        (λ i. MethodCountIsRight letters.now i (method_count_at counts.now i)) (length counts.now) result }
 {
     for index in 0..counts.len() {
         if !method_count_is_right(letters, index, counts[index]) {

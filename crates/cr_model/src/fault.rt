@@ -17,7 +17,8 @@ pub enum PartFault {
     /// This letter is not `A` to `Z`, is an earlier one again, or is the ninth. With no letters it is 0.
     #[error("letter {0} is not A to Z, is an earlier one again, or is one too many")]
     Letters(u64),
-    /// This lead has not 1 to 128 changes, all of the stage, a mark `a` to `z`, and the next step. With no leads it is 0, and where a method has no lead it is the number of leads.
+    /// This lead has not 1 to 128 changes, all of the stage, a mark `a` to `z`, and the next step. With no leads it
+    /// is 0, and where a method has no lead it is the number of leads.
     #[error("lead {0} is not the next step, or its changes are none, too many or of another stage")]
     Leads(u64),
     /// There are more than 24 leads: their number.
@@ -32,10 +33,12 @@ pub enum PartFault {
     /// The number of parts is not 1 to 64.
     #[error("{0} parts are not 1 to 64")]
     Parts(i64),
-    /// This count is of a mark that no lead has or of a letter that no method has, has not `0 <= min <= max <= 12,000`, or is the seventeenth.
+    /// This count is of a mark that no lead has or of a letter that no method has, has not
+    /// `0 <= min <= max <= 12,000`, or is the seventeenth.
     #[error("{0} is of nothing that is rung, or its limits are no range from 0 to 12000")]
     Count(CountAt),
-    /// This pattern names a bell above the stage, or one twice, has a second run or a wrong number of cells, has not `0 <= min <= max <= 12,000`, or is the thirty-third.
+    /// This pattern names a bell above the stage, or one twice, has a second run or a wrong number of cells, has not
+    /// `0 <= min <= max <= 12,000`, or is the thirty-third.
     #[error("pattern {0} does not fit the stage, or its limits are no range from 0 to 12000")]
     Pattern(u64),
     /// The limits on changes of method are not `0 <= min <= max <= 12,000`.

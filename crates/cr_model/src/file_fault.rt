@@ -42,7 +42,8 @@ pub enum Whose {
     Call(u64),
 }
 
-/// Why bytes are no problem file: the first check that does not hold, in the order of the variants, but for `NoMemory`, which may come at any point. Indices are from 0.
+/// Why bytes are no problem file: the first check that does not hold, in the order of the variants, but for
+/// `NoMemory`, which may come at any point. Indices are from 0.
 #[derive(Debug, Drop, Error)]
 pub enum ProblemFault {
     /// The bytes are not read as a TOML table.
@@ -84,10 +85,12 @@ pub enum ProblemFault {
     /// The number of parts is not 1 to 64.
     #[error("{0} parts are not 1 to 64")]
     Parts(i64),
-    /// This count is of a mark that no lead has or of a letter that no method has, or has not `0 <= min <= max <= 12,000`.
+    /// This count is of a mark that no lead has or of a letter that no method has, or has not
+    /// `0 <= min <= max <= 12,000`.
     #[error("{0} is of nothing that is rung, or its limits are no range from 0 to 12000")]
     Count(CountAt),
-    /// This pattern has a byte that is no cell, names a bell above the stage, or one twice, has a second run or a wrong number of cells, or has not `0 <= min <= max <= 12,000`.
+    /// This pattern has a byte that is no cell, names a bell above the stage, or one twice, has a second run or a
+    /// wrong number of cells, or has not `0 <= min <= max <= 12,000`.
     #[error("pattern {0} does not fit the stage, or its limits are no range from 0 to 12000")]
     Pattern(u64),
     /// No memory was left.

@@ -93,7 +93,8 @@ fn methods_led(leads: &[Lead]) -> usize
 /// The first lead that is wrong, or the number of leads where a method has none.
 pub fn wrong_lead(stage: Stage, methods: usize, leads: &[Lead]) -> Option<u64>
     requires { 0 < methods }
-    ensures { MatchOption result (LeadsAreRight stage methods leads.now) (λ index. LeadsWrongAt stage methods leads.now index) }
+    ensures { MatchOption result
+        (LeadsAreRight stage methods leads.now) (LeadsWrongAt stage methods leads.now) }
 {
     for index in 0..leads.len() {
         if !lead_is_right(stage, methods, leads, index) {

@@ -18,6 +18,7 @@ mod notation;
 mod pattern_checks;
 mod problem;
 mod query;
+mod reason;
 
 pub use calling::Calling;
 pub use fault::{CountAt, PartFault};
@@ -26,6 +27,7 @@ pub use lead::{Lead, Step};
 pub use notation::NotationFault;
 pub use problem::Problem;
 pub use query::{Cell, Com, Count, MethodCount, Pattern, Query};
+pub use reason::Reason;
 
 #[cfg(test)]
 mod tests;

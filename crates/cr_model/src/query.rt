@@ -66,5 +66,13 @@ impl Model for Query {
 
     ghost Value = { QueryParts };
 
-    ghost view = { λ q. record { min = q.min; max = q.max; parts = q.parts; counts = q.counts.items; method_counts = q.method_counts.items; patterns = q.patterns.items; «com» = q.com } };
+    ghost view = { λ q. record {
+      min = q.min;
+      max = q.max;
+      parts = q.parts;
+      counts = q.counts.items;
+      method_counts = q.method_counts.items;
+      patterns = q.patterns.items;
+      «com» = q.com;
+    } };
 }

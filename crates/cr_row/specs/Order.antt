@@ -25,18 +25,23 @@ row_cmp_total = then_total (on_total length nat_cmp_total) (on_total reverse nat
 ties_are_one : (a b : List ℕ) → Decides (is_eq (row_cmp a b)) (a ≡ b)
 ties_are_one a b = (
   λ e.
-      let parts = and_parts (is_eq (nat_cmp (length a) (length b))) (is_eq (slice_cmp nat_cmp (reverse a) (reverse b))) (tied_then (nat_cmp (length a) (length b)) (slice_cmp nat_cmp (reverse a) (reverse b)) ∙ e) in
-      let turned : reverse a ≡ reverse b = (bytes_eq-Decides (reverse a) (reverse b)).0 (sym (is_eq-slice_cmp (reverse a) (reverse b)) ∙ parts.1) in
+      let long = nat_cmp (length a) (length b) in
+      let back = slice_cmp nat_cmp (reverse a) (reverse b) in
+      let parts = and_parts (is_eq long) (is_eq back) (tied_then long back ∙ e) in
+      let turned : reverse a ≡ reverse b =
+      (bytes_eq-Decides (reverse a) (reverse b)).0 (sym (is_eq-slice_cmp (reverse a) (reverse b)) ∙ parts.1) in
       sym (reverse-reverse a) ∙ ap reverse turned ∙ reverse-reverse b,
   λ e. subst (λ (l : List ℕ). is_eq (row_cmp a l) ≡ true) e (ap is_eq (tied_itself row_cmp_total a)),
 )
 
 pub row_eq_ties : (a b : List ℕ) → pointwise nat_eq a b ≡ is_eq (row_cmp a b)
-row_eq_ties a b = same_from_decides (pointwise nat_eq a b) (is_eq (row_cmp a b)) (bytes_eq-Decides a b) (ties_are_one a b)
+row_eq_ties a b =
+    same_from_decides (pointwise nat_eq a b) (is_eq (row_cmp a b)) (bytes_eq-Decides a b) (ties_are_one a b)
 
 -- one stage, and the same places made
 abbrev pub places_eq : Places → Places → Bool
 places_eq = eq_of_both (on (λ c. c.stage) nat_eq) (on (λ c. c.made) (pointwise nat_eq))
 
 pub places_eq_equiv : IsEquivalence places_eq
-places_eq_equiv = and_equiv (on_equiv (λ (c : Places). c.stage) nat_eq_equiv) (on_equiv (λ (c : Places). c.made) nat_list_eq_equiv)
+places_eq_equiv =
+    and_equiv (on_equiv (λ (c : Places). c.stage) nat_eq_equiv) (on_equiv (λ (c : Places). c.made) nat_list_eq_equiv)

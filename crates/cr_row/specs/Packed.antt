@@ -36,7 +36,8 @@ pub bell_read : (n bits i d : ℕ) → i < n → get_or (bells_of n bits) i d �
 bell_read zero bits i d h = absurd (omega arith)
 bell_read (suc n) bits zero d h = omega arith
 bell_read (suc n) bits (suc i) d h =
-    let rest : get_or (bells_of n (bits / 16)) i d ≡ bits / 16 / 2 ^ (4 * i) % 16 + 1 = bell_read n (bits / 16) i d (omega arith) in
+    let rest : get_or (bells_of n (bits / 16)) i d ≡ bits / 16 / 2 ^ (4 * i) % 16 + 1 =
+    bell_read n (bits / 16) i d (omega arith) in
     let further : bits / 2 ^ 4 / 2 ^ (4 * i) ≡ bits / 2 ^ (4 + 4 * i) = shr-shr bits 4 (4 * i) in
     let place : 4 + 4 * i ≡ 4 * suc i = omega arith in
     rest ∙ ap (λ q. q % 16 + 1) (further ∙ ap (λ k. bits / 2 ^ k) place)

@@ -1,8 +1,9 @@
--- Rows and changes of the Framework for Method Ringing, as plain lists: the bell at each place, from the first place on.
-use Rattle.std.specs.Prelude.{◌≡◌, ℕ, ◌+◌, ◌-◌, ◌%◌, ◌<◌, ◌≤◌, cond, List, [], ◌∷◌, length, get_or, map, nat_eq}
+-- Rows and changes of the Framework for Method Ringing, as plain lists: the bell at each place, from the first on.
+use Rattle.std.specs.Prelude.{◌≡◌, ◌⊎◌, ℕ, ◌+◌, ◌-◌, ◌%◌, ◌<◌, ◌≤◌, Bool, false, cond, List, [], ◌∷◌, length, get_or, map, nat_eq}
 use Rattle.std.specs.List.{range_with_len, list_any}
 
--- a row: each of the bells 1 to the length, once. No other stands at a place, none stands twice, and each stands somewhere
+-- a row: each of the bells 1 to the length, once. No other stands at a place, none stands twice, and each stands
+-- somewhere
 pub record IsRow (row : List ℕ) : Type 0 where
   pub in_range : (i : ℕ) → i < length row → (0 < get_or row i 0) × (get_or row i 0 ≤ length row)
   pub apart : (i j : ℕ) → i < length row → j < length row → get_or row i 0 ≡ get_or row j 0 → i ≡ j
@@ -35,16 +36,38 @@ abbrev pub IsChain : ℕ → ℕ → List ℕ → Type 0
 IsChain n before [] = IsNext before (n + 1)
 IsChain n before (place ∷ places) = IsNext before place × IsChain n place places
 
--- a change: the places made ascend, and each stretch of places not made, also before the first and after the last, has an even length
+-- a change: the places made ascend, and each stretch of places not made, also before the first and after the last,
+-- has an even length
 abbrev pub IsChange : Places → Type 0
 IsChange change = IsChain change.stage 0 change.made
 
--- a row from place p on, after a change: at a place made the bell stays; in a stretch of places not made the first swaps with the second, the third with the fourth
+-- a row from place p on, after a change: at a place made the bell stays; in a stretch of places not made the first
+-- swaps with the second, the third with the fourth
 abbrev pub changed : List ℕ → ℕ → List ℕ → List ℕ
 changed made p [] = []
 changed made p (x ∷ []) = x ∷ []
-changed made p (x ∷ y ∷ xs) = cond (list_any (nat_eq p) made) (x ∷ changed made (p + 1) (y ∷ xs)) (y ∷ x ∷ changed made (p + 2) xs)
+changed made p (x ∷ y ∷ xs) =
+    cond (list_any (nat_eq p) made) (x ∷ changed made (p + 1) (y ∷ xs)) (y ∷ x ∷ changed made (p + 2) xs)
 
 -- the row after a change
 abbrev pub after : Places → List ℕ → List ℕ
 after change row = changed change.made 1 row
+
+-- the place is made
+abbrev pub is_made : Places → ℕ → Bool
+is_made change place = list_any (nat_eq place) change.made
+
+-- after a change the bells of a row at two indexes have swapped: neighbours, at places that are not made
+pub record HaveSwapped (change : Places) (row : List ℕ) (i j : ℕ) : Type 0 where
+  pub within : j < change.stage
+  pub next : (j ≡ i + 1) ⊎ (i ≡ j + 1)
+  pub free : is_made change (j + 1) ≡ false
+  pub here : get_or (after change row) i 0 ≡ get_or row j 0
+  pub there : get_or (after change row) j 0 ≡ get_or row i 0
+
+-- after a change the bell at the first index stands at the second, which is the same or next to it
+pub record HasMoved (change : Places) (row : List ℕ) (i j : ℕ) : Type 0 where
+  pub within : j < length row
+  pub up : j ≤ i + 1
+  pub down : i ≤ j + 1
+  pub bell : get_or (after change row) j 0 ≡ get_or row i 0

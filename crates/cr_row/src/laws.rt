@@ -2,7 +2,8 @@
 
 ghost use Rattle.std.specs.Prelude.{◌≡◌, ◌⊎◌, ℕ, ◌+◌, ◌-◌, ◌<◌, ◌≤◌, true, false, List, length, get_or, nat_eq};
 ghost use Rattle.std.specs.List.{list_any};
-ghost use Rattle.cr_row.specs.Rows.{IsRow, rounds, product, IsInverse, Places, IsChange, after};
+ghost use Rattle.cr_row.specs.Rows.{IsRow, rounds, product, IsInverse};
+ghost use Rattle.cr_row.specs.Rows.{Places, IsChange, after, is_made, HaveSwapped, HasMoved};
 ghost use Rattle.cr_row.specs.Packed.{key_of};
 ghost use Rattle.cr_row.specs.PlaceFaults.{IsPlaceFault};
 ghost use Rattle.cr_row.specs.declared.faults.PlaceFault.{PlaceFault};
@@ -26,9 +27,11 @@ pub fn change_twice()
 /// After a change the bell at each place made stays, and each other bell swaps with a neighbour at a
 /// place that is not made either. So each bell stands at most one place from where it stood.
 pub fn change_swaps_neighbours()
-    ensures stays { (c : Places) (r : List ℕ) (p : ℕ) → IsChange c → length r ≡ c.stage → list_any (nat_eq p) c.made ≡ true → get_or (after c r) (p - 1) 0 ≡ get_or r (p - 1) 0 }
-    ensures swaps { (c : Places) (r : List ℕ) (i : ℕ) → IsChange c → length r ≡ c.stage → i < c.stage → list_any (nat_eq (i + 1)) c.made ≡ false → (j : ℕ) × (j < c.stage) × ((j ≡ i + 1) ⊎ (i ≡ j + 1)) × (list_any (nat_eq (j + 1)) c.made ≡ false) × (get_or (after c r) i 0 ≡ get_or r j 0) × (get_or (after c r) j 0 ≡ get_or r i 0) }
-    ensures near { (c : Places) (r : List ℕ) (i : ℕ) → i < length r → (j : ℕ) × (j < length r) × (j ≤ i + 1) × (i ≤ j + 1) × (get_or (after c r) j 0 ≡ get_or r i 0) }
+    ensures stays { (c : Places) (r : List ℕ) (p : ℕ) → IsChange c → length r ≡ c.stage →
+        is_made c p ≡ true → get_or (after c r) (p - 1) 0 ≡ get_or r (p - 1) 0 }
+    ensures swaps { (c : Places) (r : List ℕ) (i : ℕ) → IsChange c → length r ≡ c.stage → i < c.stage →
+        is_made c (i + 1) ≡ false → (j : ℕ) × HaveSwapped c r i j }
+    ensures near { (c : Places) (r : List ℕ) (i : ℕ) → i < length r → (j : ℕ) × HasMoved c r i j }
 {}
 
 /// The product of two rows of one length is a row of that length.
@@ -44,8 +47,10 @@ pub fn product_associates()
 
 /// Rows cancel in a product, on both sides.
 pub fn rows_cancel()
-    ensures left { (h r s : List ℕ) → IsRow h → IsRow r → IsRow s → length r ≡ length h → length s ≡ length h → product h r ≡ product h s → r ≡ s }
-    ensures right { (g h r : List ℕ) → IsRow r → length g ≡ length r → length h ≡ length r → product g r ≡ product h r → g ≡ h }
+    ensures left { (h r s : List ℕ) → IsRow h → IsRow r → IsRow s → length r ≡ length h → length s ≡ length h →
+        product h r ≡ product h s → r ≡ s }
+    ensures right { (g h r : List ℕ) → IsRow r → length g ≡ length r → length h ≡ length r →
+        product g r ≡ product h r → g ≡ h }
 {}
 
 /// Rounds is neutral on both sides.
@@ -64,8 +69,10 @@ pub fn inverse_is_unique()
 
 /// Of two rows of one length, one is the inverse of the other as soon as it undoes it on one side.
 pub fn inverse_on_one_side()
-    ensures right { (h r : List ℕ) → IsRow h → IsRow r → length h ≡ length r → product h r ≡ rounds (length h) → IsInverse h r }
-    ensures left { (h r : List ℕ) → IsRow h → IsRow r → length h ≡ length r → product r h ≡ rounds (length h) → IsInverse h r }
+    ensures right { (h r : List ℕ) → IsRow h → IsRow r → length h ≡ length r →
+        product h r ≡ rounds (length h) → IsInverse h r }
+    ensures left { (h r : List ℕ) → IsRow h → IsRow r → length h ≡ length r →
+        product r h ≡ rounds (length h) → IsInverse h r }
 {}
 
 /// Rows of at most 16 bells that have one length and one key are one.
@@ -75,6 +82,8 @@ pub fn keys_tell_rows_apart()
 
 /// Of the places given there is at most one fault, and none where they are those of a change.
 pub fn place_fault_is_unique()
-    ensures one { (stage : ℕ) (places : List ℕ) (f g : PlaceFault) → IsPlaceFault stage places f → IsPlaceFault stage places g → f ≡ g }
-    ensures none { (stage : ℕ) (places : List ℕ) (f : PlaceFault) → IsPlaceFault stage places f → IsChange (record { stage = stage; made = places }) → ⊥ }
+    ensures one { (stage : ℕ) (places : List ℕ) (f g : PlaceFault) →
+        IsPlaceFault stage places f → IsPlaceFault stage places g → f ≡ g }
+    ensures none { (stage : ℕ) (places : List ℕ) (f : PlaceFault) →
+        IsPlaceFault stage places f → IsChange (record { stage = stage; made = places }) → ⊥ }
 {}

@@ -1,9 +1,11 @@
 //! Touches and their rotations.
 
-ghost use Rattle.std.specs.Prelude.{◌≡◌, ℕ, List};
+ghost use Rattle.std.specs.Prelude.{◌≡◌, ◌↔◌, ℕ, true, List, ◌++◌};
 ghost use Rattle.cr_model.specs.Problems.{ProblemParts};
 ghost use Rattle.cr_model.specs.Callings.{length_of, TrueTouch};
-ghost use Rattle.cr_model.specs.Touches.{Wanted, IsRotation, Kept};
+ghost use Rattle.cr_model.specs.Touches.{Wanted, IsRotation, IsLess, Kept};
+ghost use Rattle.cr_model.specs.Turning.{TurnsBack};
+ghost use Rattle.cr_model.specs.Dead.{turns_back, turn_free};
 
 use cr_row::{
     change_after_product, change_of_a_row, inverse_on_one_side, product_associates,
@@ -41,3 +43,22 @@ pub fn a_rotation_of_a_true_touch_is_one()
     product_associates();
     rounds_is_neutral();
 }
+
+/// Where a query has no patterns and no limits on changes of method, a rotation of a wanted touch is wanted.
+pub fn a_rotation_of_a_wanted_touch_is_wanted()
+    ensures { (p : ProblemParts) (calling other : List ℕ) → turn_free p.query ≡ true → Wanted p calling
+        → IsRotation calling other → Wanted p other }
+{
+    change_after_product();
+    change_of_a_row();
+    inverse_on_one_side();
+    product_associates();
+    rounds_is_neutral();
+}
+
+/// A test decides whether a word turns back; and what such a word begins has a rotation that is less.
+pub fn what_turns_back_is_not_least()
+    ensures decided { (word : List ℕ) → (turns_back word ≡ true) ↔ TurnsBack word }
+    ensures lesser { (word more : List ℕ) → TurnsBack word
+        → (other : List ℕ) × IsRotation (word ++ more) other × IsLess other (word ++ more) }
+{}

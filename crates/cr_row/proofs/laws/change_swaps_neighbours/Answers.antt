@@ -9,8 +9,18 @@ returns-clause-stays c = λ change r p is long made. after_stays change r p is l
 pub returns-clause-swaps : goal.returns-clause-swaps
 returns-clause-swaps c = λ change r i is long within free. (
     let swap = after_swaps change r i is long within free in
-    let place : swap.to + 1 ≡ 1 + swap.to = omega arith in
-    (swap.to, omega (arith, swap.within), swap.next, ap (λ q. list_any (nat_eq q) change.made) place ∙ swap.free, swap.here, swap.there))
+    let place : swap.to + 1 ≡ 1 + swap.to = omega arith in (
+      swap.to,
+      record {
+        within = omega (arith, swap.within);
+        next = swap.next;
+        free = ap (λ q. list_any (nat_eq q) change.made) place ∙ swap.free;
+        here = swap.here;
+        there = swap.there;
+      },
+    ))
 
 pub returns-clause-near : goal.returns-clause-near
-returns-clause-near c = λ change r i inside. (let near = changed_near change.made 1 r i inside in (near.to, near.within, near.up, near.down, near.bell))
+returns-clause-near c = λ change r i inside. (
+    let near = changed_near change.made 1 r i inside in
+    (near.to, record { within = near.within; up = near.up; down = near.down; bell = near.bell }))
