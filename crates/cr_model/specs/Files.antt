@@ -4,6 +4,7 @@ use Rattle.std.specs.Prelude.{IsUtf8, codes}
 use Rattle.toml.specs.Data.{Data, Members, no_members, get_member, as_str, as_integer}
 use Rattle.toml.specs.Parse.{parse_document}
 use Rattle.cr_model.specs.declared.query.Com.{Com}
+use Rattle.cr_model.specs.Limits.{most_changes}
 use Rattle.cr_model.specs.Keys.{key_faults, members_in, values_in, number_at, text_at}
 
 -- a method, by its letter and its place notation
@@ -55,13 +56,13 @@ abbrev pub limited_in : List ℕ → Data → Limited
 limited_in name value = record {
   text = text_at name (members_in value);
   min = number_at (codes "min") (pos 0) (members_in value);
-  max = number_at (codes "max") (pos 12000) (members_in value);
+  max = number_at (codes "max") (pos most_changes) (members_in value);
 }
 
 abbrev pub com_in : Data → Com
 com_in value = record {
   min = number_at (codes "min") (pos 0) (members_in value);
-  max = number_at (codes "max") (pos 12000) (members_in value);
+  max = number_at (codes "max") (pos most_changes) (members_in value);
 }
 
 -- the members of a table of the top

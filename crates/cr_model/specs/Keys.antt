@@ -6,6 +6,7 @@ use Rattle.std.specs.List.{list_any, list_all}
 use Rattle.std.specs.Cmp.Lexicographic.{pointwise}
 use Rattle.toml.specs.Data.{Data, string, integer, array, table, Items, no_items, item, Members, no_members}
 use Rattle.toml.specs.Data.{member, get_member, as_str, as_integer, as_table}
+use Rattle.cr_model.specs.Limits.{most_methods, most_counts, most_patterns}
 
 -- the text is one of these
 abbrev pub is_among : List (List ℕ) → List ℕ → Bool
@@ -144,12 +145,12 @@ part_named name shape keys = record { name = name; shape = shape; keys = keys }
 -- the parts in their order, where the methods have these letters
 abbrev pub parts : List (List ℕ) → List Part
 parts letters =
-    part_named (codes "method") (several 1 8) method_keys
+    part_named (codes "method") (several 1 most_methods) method_keys
     ∷ part_named (codes "call") (several 0 23) (call_keys letters)
     ∷ part_named (codes "query") (single true) query_keys
-    ∷ part_named (codes "count") (several 0 16) (limited_keys (codes "mark"))
-    ∷ part_named (codes "leads") (several 0 16) (limited_keys (codes "letter"))
-    ∷ part_named (codes "rows") (several 0 32) (limited_keys (codes "pattern"))
+    ∷ part_named (codes "count") (several 0 most_counts) (limited_keys (codes "mark"))
+    ∷ part_named (codes "leads") (several 0 most_counts) (limited_keys (codes "letter"))
+    ∷ part_named (codes "rows") (several 0 most_patterns) (limited_keys (codes "pattern"))
     ∷ part_named (codes "com") (single false) com_keys
     ∷ []
 

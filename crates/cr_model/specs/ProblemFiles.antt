@@ -19,6 +19,7 @@ use Rattle.cr_model.specs.declared.file_fault.ProblemFault.{ProblemFault}
 use Rattle.cr_model.specs.declared.file_fault.ProblemFault.TheVariants as fault
 use Rattle.cr_model.specs.Problems.{LeadParts, PatternParts, QueryParts, ProblemParts, parts_from}
 use Rattle.cr_model.specs.Callings.{called}
+use Rattle.cr_model.specs.Limits.{most_lead_changes}
 use Rattle.cr_model.specs.Checks.{IsFirstWrong}
 use Rattle.cr_model.specs.Right.{plain, LetterIsRight}
 use Rattle.cr_model.specs.Sound.{IsSound}
@@ -130,7 +131,7 @@ parts_of n file tunes = parts_from n (letters_of file) (leads_of file tunes) (qu
 
 -- `over` is 0 to 128, if the call has it
 abbrev pub OverIsRight : FileParts → ℕ → Type 0
-OverIsRight file call = IfSome (call_at file call).over (λ over. (pos 0 ≤ℤ over) × (over ≤ℤ pos 128))
+OverIsRight file call = IfSome (call_at file call).over (λ over. (pos 0 ≤ℤ over) × (over ≤ℤ pos most_lead_changes))
 
 -- one byte `a` to `z`, and not the mark of a plain lead
 pub record MarkIsRight (mark : ℕ) : Type 0 where
@@ -141,7 +142,7 @@ pub record MarkIsRight (mark : ℕ) : Type 0 where
 -- a call replaces no more changes than the method has, and gives a lead of at most 128
 pub record Fits (file : FileParts) (tunes : Tunes) (call method : ℕ) : Type 0 where
   pub over : unwrap_or (over_at file call) (length (tune_at tunes.calls call)) ≤ length (tune_at tunes.methods method)
-  pub short : length (called_tune file tunes call method) ≤ 128
+  pub short : length (called_tune file tunes call method) ≤ most_lead_changes
 
 -- the call fits the method, if it is for it
 abbrev pub Suits : FileParts → Tunes → ℕ → ℕ → Type 0

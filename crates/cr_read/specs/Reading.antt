@@ -1,15 +1,13 @@
 -- What the steps of the reader say.
-use Rattle.std.specs.Prelude.{◌≡◌, ℕ, ◌<◌, true, List, ◌∷◌, length}
+use Rattle.std.specs.Prelude.{◌≡◌, ℕ, List, ◌∷◌, length}
 use Rattle.cr_model.specs.declared.file_fault.ProblemFault.{ProblemFault}
 use Rattle.cr_model.specs.declared.file_fault.ProblemFault.TheVariants as fault
 use Rattle.cr_model.specs.declared.fault.PartFault.{PartFault}
 use Rattle.cr_model.specs.declared.fault.PartFault.TheVariants as part
-use Rattle.cr_model.specs.Faults.{IsFirstWrong}
 use Rattle.cr_model.specs.Files.{FileParts, Reads}
 use Rattle.cr_model.specs.Keys.{key_faults}
 use Rattle.toml.specs.Data.{Members}
-use Rattle.cr_model.specs.ProblemFiles.{Tunes, mark_at, is_for, OverIsRight, MarkIsRight, Fits, FitsAll}
-use Rattle.cr_model.specs.ProblemFiles.{AreApart, IsFileFault, FirstProblemFault}
+use Rattle.cr_model.specs.ProblemFiles.{Tunes, IsFileFault, FirstProblemFault}
 
 -- the fault is the file's first, or want of memory
 abbrev pub Refused : FileParts → ProblemFault → Type 0

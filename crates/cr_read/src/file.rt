@@ -9,6 +9,7 @@ ghost use Rattle.cr_model.specs.Files.{method_in, call_in, limited_in, com_in, f
 use crate::file_parts::{CallText, File, Limited, MethodText};
 use crate::values::{found, items_at, number_found, text_found};
 use cr_model::Com;
+use cr_model::limits::MOST_CHANGES;
 use std::alloc::{AllocError, Global};
 use toml::Value;
 
@@ -59,11 +60,9 @@ fn limited_of<'a>(table: &'a Value, name: &str) -> Limited<'a>
     Limited {
         text: text_at(table, name),
         min: number_at(table, "min", 0),
-        max: number_at(table, "max", MOST),
+        max: number_at(table, "max", MOST_CHANGES),
     }
 }
-
-const MOST: i64 = 12_000;
 
 fn methods_of<'a>(alloc: Global, root: &'a Value) -> Result<Vec<MethodText<'a>>, AllocError>
     ensures { IfOk result (λ methods. methods.items ≡
@@ -120,7 +119,7 @@ fn com_of(root: &Value) -> Option<Com>
     match found(root, "com") {
         Some(limits) => Some(Com {
             min: number_at(limits, "min", 0),
-            max: number_at(limits, "max", MOST),
+            max: number_at(limits, "max", MOST_CHANGES),
         }),
         None => None,
     }

@@ -1,5 +1,7 @@
 //! The parts of a problem file and the keys of their tables, in their order.
 
+use cr_model::limits::{MOST_COUNTS, MOST_METHODS, MOST_PATTERNS};
+
 /// What may stand at a key.
 #[derive(Clone, Copy, Drop)]
 pub enum Kind {
@@ -110,7 +112,7 @@ const COPIES: Key = Key {
 pub const PARTS: &[Part] = &[
     Part {
         name: "method",
-        shape: Shape::Several(1, 8),
+        shape: Shape::Several(1, MOST_METHODS),
         keys: &[LETTER, NOTATION, NAME],
     },
     Part {
@@ -125,17 +127,17 @@ pub const PARTS: &[Part] = &[
     },
     Part {
         name: "count",
-        shape: Shape::Several(0, 16),
+        shape: Shape::Several(0, MOST_COUNTS),
         keys: &[MARK, MIN, MAX],
     },
     Part {
         name: "leads",
-        shape: Shape::Several(0, 16),
+        shape: Shape::Several(0, MOST_COUNTS),
         keys: &[LETTER, MIN, MAX],
     },
     Part {
         name: "rows",
-        shape: Shape::Several(0, 32),
+        shape: Shape::Several(0, MOST_PATTERNS),
         keys: &[PATTERN, MIN, MAX],
     },
     Part {
