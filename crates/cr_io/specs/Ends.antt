@@ -14,13 +14,15 @@ abbrev pub TookMore : {S : Type 0} → (S → S → List ℕ → Type 0) → S �
 TookMore took old new limit = (taken : List ℕ) × took old new taken × (limit < length taken)
 
 -- Ok gives the bytes that were taken; TooLong comes exactly where these were more than the limit
-abbrev pub TakesWithin : {S : Type 0} → (S → S → List ℕ → Type 0) → S → S → ℕ → Result (Vec ℕ Global) ReadEnd → Type 0
+abbrev pub TakesWithin : {S : Type 0} → (S → S → List ℕ → Type 0) → S → S → ℕ
+    → Result (Vec ℕ Global) ReadEnd → Type 0
 TakesWithin took old new limit (Ok bytes) = took old new bytes.items × (length bytes.items ≤ limit)
 TakesWithin took old new limit (Err end.TooLong) = TookMore took old new limit
 TakesWithin took old new limit (Err end.ReadFault) = TookAtMost took old new limit
 TakesWithin took old new limit (Err end.NoMemory) = TookAtMost took old new limit
 
--- of a source that tells its bytes, Ok gives all that were left, and TooLong comes only where more than the limit were left
+-- of a source that tells its bytes, Ok gives all that were left,
+-- and TooLong comes only where more than the limit were left
 abbrev pub ReadsAll : Option (List ℕ) → Option (List ℕ) → ℕ → Result (Vec ℕ Global) ReadEnd → Type 0
 ReadsAll None new limit (Ok bytes) = IsAtEnd new
 ReadsAll (Some left) new limit (Ok bytes) = (new ≡ Some []) × (bytes.items ≡ left) × (length left ≤ limit)

@@ -1,5 +1,6 @@
 -- Bytes that are appended to a sink.
-use Rattle.std.specs.Prelude.{◌≡◌, ℕ, ◌<◌, ◌≤◌, ⊤, List, [], ◌++◌, length, take, Option, Some, None, Result, IfOk, MatchResult}
+use Rattle.std.specs.Prelude.{◌≡◌, ℕ, ◌<◌, ◌≤◌, ⊤, List, [], ◌++◌, length, take}
+use Rattle.std.specs.Prelude.{Option, Some, None, Result, IfOk, MatchResult}
 
 -- told bytes grew by these; a sink that tells nothing tells nothing later
 abbrev pub Grows : Option (List ℕ) → Option (List ℕ) → List ℕ → Type 0

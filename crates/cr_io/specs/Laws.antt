@@ -1,8 +1,9 @@
 -- Laws of bytes taken and appended, one call after another.
-use Rattle.std.specs.Prelude.{ℕ, List, [], ◌++◌, Option, Some, None}
+use Rattle.std.specs.Prelude.{ℕ, List, [], ◌++◌, length, Option, Some, None}
 use Rattle.std.specs.Io.KnownBytes.{Appends, Consumes}
-use Rattle.std.proofs.Common.{refl, ap, sym, ◌∙◌, append_assoc, append-nil}
+use Rattle.std.proofs.Common.{refl, ap, sym, ◌∙◌, arith, append_assoc, append-nil, length-append}
 use Rattle.cr_io.specs.Grown.{Grows, Shows}
+use Rattle.cr_io.specs.Tallies.{Counted, Gave, Took}
 
 pub Consumes-starts : (a : Option (List ℕ)) → Consumes a a []
 Consumes-starts None = tt
@@ -31,17 +32,35 @@ Grows-shows None b x p = tt
 Grows-shows (Some a) None x p = tt
 Grows-shows (Some a) (Some b) x p = p
 
-pub Appends-starts : (a : Option (List ℕ)) → Appends a a []
+Appends-starts : (a : Option (List ℕ)) → Appends a a []
 Appends-starts None = tt
 Appends-starts (Some xs) = sym (append-nil xs)
 
-pub Appends-chains : (a b c : Option (List ℕ)) (x y : List ℕ) → Appends a b x → Appends b c y → Appends a c (x ++ y)
+Appends-chains : (a b c : Option (List ℕ)) (x y : List ℕ) → Appends a b x → Appends b c y → Appends a c (x ++ y)
 Appends-chains None b c x y p q = tt
 Appends-chains (Some a) None c x y p q = absurd p
 Appends-chains (Some a) (Some b) None x y p q = absurd q
 Appends-chains (Some a) (Some b) (Some c) x y p q = q ∙ ap (λ l. l ++ y) p ∙ append_assoc a x y
 
-pub Appends-shows : (a b : Option (List ℕ)) (x : List ℕ) → Appends a b x → Shows a b x
-Appends-shows None b x p = tt
-Appends-shows (Some a) None x p = tt
-Appends-shows (Some a) (Some b) x p = p
+pub Took-shows : (a b : Option (List ℕ)) (x : List ℕ) → Appends a b x → Shows a b x
+Took-shows None b x p = tt
+Took-shows (Some a) None x p = tt
+Took-shows (Some a) (Some b) x p = p
+
+Counted-chains : (a b c : ℕ) (x y : List ℕ) → Counted a b (length x) → Counted b c (length y)
+    → Counted a c (length (x ++ y))
+Counted-chains a b c x y p q = omega (arith, length-append x y)
+
+pub Gave-starts : (a : Option (List ℕ)) (n : ℕ) → Gave a a n n []
+Gave-starts a n = (Consumes-starts a, omega arith)
+
+pub Gave-chains : (a b c : Option (List ℕ)) (i j k : ℕ) (x y : List ℕ) → Gave a b i j x → Gave b c j k y
+    → Gave a c i k (x ++ y)
+Gave-chains a b c i j k x y p q = (Consumes-chains a b c x y p.0 q.0, Counted-chains i j k x y p.1 q.1)
+
+pub Took-starts : (a : Option (List ℕ)) (n : ℕ) → Took a a n n []
+Took-starts a n = (Appends-starts a, omega arith)
+
+pub Took-chains : (a b c : Option (List ℕ)) (i j k : ℕ) (x y : List ℕ) → Took a b i j x → Took b c j k y
+    → Took a c i k (x ++ y)
+Took-chains a b c i j k x y p q = (Appends-chains a b c x y p.0 q.0, Counted-chains i j k x y p.1 q.1)

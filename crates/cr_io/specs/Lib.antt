@@ -5,4 +5,5 @@ pub mod Calls
 pub mod Stores
 pub mod Ends
 pub mod Turns
+pub mod Tallies
 pub mod Laws

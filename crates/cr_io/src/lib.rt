@@ -14,6 +14,7 @@ mod reading;
 mod schedule;
 mod stored;
 mod supplied;
+mod tally;
 #[cfg(test)]
 mod tests;
 mod writing;
@@ -23,10 +24,12 @@ pub use counting::Steps;
 pub use reading::{ReadEnd, read_all, read_all_counted};
 pub use stored::{MemSink, SureSink};
 pub use supplied::{MemSource, SureSource};
+use thiserror::Error;
 pub use writing::{WriteFault, write_whole};
 
 /// A call of the outside failed.
-#[derive(Debug, Drop, Clone, Copy, PartialEq, Eq)]
+#[derive(Debug, Drop, Clone, Copy, PartialEq, Eq, Error)]
+#[error("a call failed")]
 pub struct Failed;
 
 /// Where bytes are read from.
@@ -48,6 +51,10 @@ pub trait Source {
         ensures bytes { ReadTakes took self.old self.new result buf.new }
         ensures ends { IfOk result (λ n. n ≡ 0 → 0 < length buf.new → IsAtEnd (left self.new)) }
         ensures cause { HasCause (faults self.old) (faults self.new) result };
+
+    /// How many calls failed, as a number. So a count of faults is below 2^64.
+    fn fault_count(&self) -> u64
+        ensures { result ≡ faults self.now };
 
     /// From a state to itself, nothing was taken.
     ghost starts: { (a : Self) → took a a [] };
@@ -77,6 +84,10 @@ pub trait Sink {
         ensures bound { TakesSome result piece.now }
         ensures bytes { WriteGrows grew self.old self.new result piece.now }
         ensures cause { HasCause (faults self.old) (faults self.new) result };
+
+    /// How many calls failed, as a number. So a count of faults is below 2^64.
+    fn fault_count(&self) -> u64
+        ensures { result ≡ faults self.now };
 
     /// From a state to itself, nothing was appended.
     ghost starts: { (a : Self) → grew a a [] };

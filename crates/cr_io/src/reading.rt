@@ -12,15 +12,19 @@ use crate::{Failed, Source, Steps};
 use std::alloc::{AllocError, Global};
 use std::marker::Brand;
 use std::sync::ledger::{Blank, Ledger};
+use thiserror::Error;
 
 /// Why a source was not read whole.
-#[derive(Debug, Drop, Clone, Copy, PartialEq, Eq)]
+#[derive(Debug, Drop, Clone, Copy, PartialEq, Eq, Error)]
 pub enum ReadEnd {
     /// A read failed.
+    #[error("a read failed")]
     ReadFault,
     /// The source gave more bytes than the limit.
+    #[error("the input is too long")]
     TooLong,
     /// There was no memory for the bytes.
+    #[error("there is no memory for the input")]
     NoMemory,
 }
 

@@ -50,4 +50,11 @@ impl Schedule {
         }
         Ok(())
     }
+
+    /// How many calls failed.
+    pub fn faults(&self) -> u64
+        ensures { result ≡ self.now.faults }
+    {
+        self.faults
+    }
 }

@@ -74,6 +74,10 @@ impl Sink for SureSink {
         }
         Ok(piece.len())
     }
+
+    fn fault_count(&self) -> u64 {
+        0
+    }
 }
 
 /// A sink in memory that fails at the calls named, and takes at most so many bytes at each. From a
@@ -143,5 +147,9 @@ impl Sink for MemSink {
         self.schedule.call()?;
         let room = self.most.min(piece.len() as u64) as usize;
         self.sink.write(&piece[..room])
+    }
+
+    fn fault_count(&self) -> u64 {
+        self.schedule.faults()
     }
 }

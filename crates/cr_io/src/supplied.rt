@@ -61,6 +61,10 @@ impl Source for SureSource {
         self.next += count;
         Ok(count)
     }
+
+    fn fault_count(&self) -> u64 {
+        0
+    }
 }
 
 // Copies as many bytes as fit to the front of a buffer, and gives their number.
@@ -133,5 +137,9 @@ impl Source for MemSource {
         self.schedule.call()?;
         let room = self.most.min(buf.len() as u64) as usize;
         self.source.read(&mut buf[..room])
+    }
+
+    fn fault_count(&self) -> u64 {
+        self.schedule.faults()
     }
 }

@@ -1,8 +1,10 @@
 //! What no clause says: worked cases of each call, with ample memory.
 
+ghost use Rattle.std.specs.Prelude.{◌≡◌, IfOk};
+
 use super::*;
 use std::alloc::{AllocError, Global};
-use std::io::{self, Read};
+use std::io::{self, Read, Write};
 use std::test::Fail;
 
 // The bytes 0, 1, .. up to 250, and again from 0, so many of them.
@@ -14,57 +16,93 @@ fn ascending(alloc: Global, count: u64) -> Result<Vec<u8>, AllocError> {
     Ok(bytes)
 }
 
-// What a read gave, unless it found no memory.
-fn with_memory(read: Result<Vec<u8>, ReadEnd>) -> Result<Result<Vec<u8>, ReadEnd>, ReadEnd> {
-    match read {
-        Err(ReadEnd::NoMemory) => Err(ReadEnd::NoMemory),
-        other => Ok(other),
+// Nothing where the case holds, and else its name.
+fn holds(name: &'static str, is_right: bool) -> Result<(), Fail> {
+    if is_right {
+        Ok(())
+    } else {
+        Err(Fail::from(name))
     }
 }
 
-#[test]
-fn reads_up_to_the_limit(rt: HostRuntime) -> Result<(), Fail> {
-    let alloc = rt.alloc();
-    for (count, limit, is_short) in [
-        (9, 8, false),
-        (8, 8, true),
-        (0, 0, true),
-        (1, 0, false),
-        (9_000, 8_999, false),
-        (9_000, 9_000, true),
-    ] {
-        let bytes = ascending(alloc, count)?;
-        let mut source = SureSource::new(bytes.clone()?);
-        let want = if is_short {
-            Ok(bytes)
-        } else {
-            Err(ReadEnd::TooLong)
-        };
-        let read = with_memory(read_all(alloc, &mut source, limit))?;
-        assert!(rt; read == want, "{count} bytes, at most {limit}");
-    }
-    Ok(())
-}
+// Which case it is, how many bytes there are, how many a call gives at most, which call fails, the
+// limit, and what ends the reading where it does not come to the end. A call asks for 4,096 bytes,
+// and the last one finds the end.
+const READINGS: [(&str, u64, u64, u64, u64, Option<ReadEnd>); 14] = [
+    ("nothing, at most nothing", 0, 9, 0, 0, None),
+    ("one byte above nothing", 1, 9, 0, 0, Some(ReadEnd::TooLong)),
+    ("as many as the limit", 8, 9, 0, 8, None),
+    (
+        "one byte above the limit",
+        9,
+        9,
+        0,
+        8,
+        Some(ReadEnd::TooLong),
+    ),
+    ("long, as many as the limit", 9_000, 9_000, 0, 9_000, None),
+    (
+        "long, above the limit",
+        9_000,
+        9_000,
+        0,
+        8_999,
+        Some(ReadEnd::TooLong),
+    ),
+    ("byte by byte", 9, 1, 11, 9, None),
+    (
+        "byte by byte, the end fails",
+        9,
+        1,
+        10,
+        9,
+        Some(ReadEnd::ReadFault),
+    ),
+    ("fours and a short piece", 10, 4, 5, 10, None),
+    (
+        "the first of fours fails",
+        10,
+        4,
+        1,
+        10,
+        Some(ReadEnd::ReadFault),
+    ),
+    (
+        "the short piece fails",
+        10,
+        4,
+        3,
+        10,
+        Some(ReadEnd::ReadFault),
+    ),
+    (
+        "the end after fours fails",
+        10,
+        4,
+        4,
+        10,
+        Some(ReadEnd::ReadFault),
+    ),
+    ("two whole pieces", 8_192, 5_000, 4, 9_000, None),
+    (
+        "the end after two fails",
+        8_192,
+        5_000,
+        3,
+        9_000,
+        Some(ReadEnd::ReadFault),
+    ),
+];
 
 #[test]
-fn reads_by_pieces(rt: HostRuntime) -> Result<(), Fail> {
+fn reads_to_the_end_or_the_limit(rt: HostRuntime) -> Result<(), Fail> {
     let alloc = rt.alloc();
-    // Each call asks for 4,096 bytes, and the last finds the end.
-    for (count, most, calls) in [(9, 1, 10), (10, 4, 4), (9_000, 5_000, 4), (8_192, 5_000, 3)] {
+    for (name, count, most, fail, limit, end) in READINGS {
         let bytes = ascending(alloc, count)?;
-        for call in 1..calls + 2 {
-            let fail = Vec::from_slice(alloc, &[call])?;
-            let mut source = MemSource::new(bytes.clone()?, fail, most);
-            let read = with_memory(read_all(alloc, &mut source, 9_000))?;
-            if call <= calls {
-                assert!(rt;
-                    read == Err(ReadEnd::ReadFault),
-                    "call {call} of {calls} fails"
-                );
-            } else {
-                let read = read.ok().ok_or("no call fails")?;
-                assert!(rt; read == bytes, "{count} bytes by {most}");
-            }
+        let mut source = MemSource::new(bytes.clone()?, Vec::from_slice(alloc, &[fail])?, most);
+        match read_all(alloc, &mut source, limit) {
+            Ok(read) => holds(name, end.is_none() && read == bytes)?,
+            Err(other) => holds(name, end == Some(other))?,
         }
     }
     Ok(())
@@ -74,93 +112,177 @@ fn reads_by_pieces(rt: HostRuntime) -> Result<(), Fail> {
 fn gives_what_it_can(rt: HostRuntime) -> Result<(), Fail> {
     let alloc = rt.alloc();
     let mut source = MemSource::new(ascending(alloc, 5)?, Vec::from_slice(alloc, &[2])?, 3);
+    let mut sure = SureSource::new(ascending(alloc, 2)?);
     let mut buf = [9; 4];
-    assert!(rt; source.read(&mut []) == Ok(0));
-    assert!(rt; source.read(&mut buf) == Err(Failed));
-    assert!(rt; source.read(&mut buf) == Ok(3));
-    assert!(rt; buf == [0, 1, 2, 9]);
-    assert!(rt; source.read(&mut buf) == Ok(2));
-    assert!(rt; buf == [3, 4, 2, 9]);
-    assert!(rt; source.read(&mut buf) == Ok(0));
-    Ok(())
+    let empty = source.read(&mut []);
+    let failed = source.read(&mut buf);
+    holds(
+        "the second call fails",
+        empty == Ok(0) && failed == Err(Failed) && source.fault_count() == 1,
+    )?;
+    let three = source.read(&mut buf);
+    holds("three at most", three == Ok(3) && buf == [0, 1, 2, 9])?;
+    let two = sure.read(&mut buf);
+    let none = sure.read(&mut buf);
+    holds("all that is left", two == Ok(2) && buf == [0, 1, 2, 9])?;
+    holds(
+        "the end is no fault",
+        none == Ok(0) && sure.fault_count() == 0,
+    )
 }
+
+// Which case it is, how many bytes the text has, how many a call takes at most, which call fails, and
+// how many bytes are written.
+const WRITINGS: [(&str, u64, u64, u64, u64); 7] = [
+    ("an empty text makes no call", 0, 16, 1, 0),
+    ("the first call fails", 40, 16, 1, 0),
+    ("the third call fails", 40, 16, 3, 32),
+    ("no call fails", 40, 16, 4, 40),
+    ("the last byte fails", 40, 1, 40, 39),
+    ("byte by byte", 40, 1, 41, 40),
+    ("at one stroke", 40, 100, 2, 40),
+];
 
 #[test]
 fn writes_until_a_fault(rt: HostRuntime) -> Result<(), Fail> {
     let alloc = rt.alloc();
-    let text = ascending(alloc, 40)?;
-    for (fail, most, is_whole, written) in [
-        (3, 16, false, 32),
-        (1, 16, false, 0),
-        (4, 16, true, 40),
-        (40, 1, false, 39),
-        (41, 1, true, 40),
-        (2, 100, true, 40),
-    ] {
+    for (name, count, most, fail, written) in WRITINGS {
+        let text = ascending(alloc, count)?;
         let mut sink = MemSink::new(alloc, Vec::from_slice(alloc, &[fail])?, most);
-        let want = if is_whole { Ok(()) } else { Err(WriteFault) };
-        assert!(rt;
-            write_whole(&mut sink, &text) == want,
-            "call {fail} by {most}"
-        );
+        let is_whole = write_whole(&mut sink, &text).is_ok();
         let bytes = sink.bytes().ok_or("a write found no memory")?;
-        let front = ascending(alloc, written)?;
-        assert!(rt; bytes == front.as_slice(), "call {fail} by {most}");
+        holds(
+            name,
+            is_whole == (written == count) && bytes == &text[..bytes.len().min(text.len())],
+        )?;
+        holds(name, bytes.len() as u64 == written)?;
     }
     Ok(())
 }
 
+// Which case it is, and the length of a piece that is written at one call.
+const PIECES: [(&str, usize); 5] = [
+    ("an empty piece", 0),
+    ("one byte", 1),
+    ("4,096 bytes", 4_096),
+    ("4,097 bytes", 4_097),
+    ("100,000 bytes", 100_000),
+];
+
 #[test]
-fn writes_empty_pieces(rt: HostRuntime) -> Result<(), Fail> {
+fn no_piece_is_lost(rt: HostRuntime) -> Result<(), Fail> {
     let alloc = rt.alloc();
-    let mut sink = MemSink::new(alloc, Vec::from_slice(alloc, &[1])?, 1);
-    // No call is made for an empty text.
-    assert!(rt; write_whole(&mut sink, &[]) == Ok(()));
-    assert!(rt; sink.write(&[]) == Err(Failed));
-    assert!(rt; sink.write(&[]) == Ok(0));
-    assert!(rt; sink.bytes().is_some_and(|bytes| bytes.is_empty()));
-    let mut sure = SureSink::new(alloc);
-    assert!(rt; sure.write(&[]) == Ok(0));
-    assert!(rt; write_whole(&mut sure, &[7, 8]) == Ok(()));
-    assert!(rt; write_whole(&mut sure, &[9]) == Ok(()));
-    let bytes = sure.bytes().ok_or("a write found no memory")?;
-    assert!(rt; bytes == [7, 8, 9].as_slice());
+    let text = ascending(alloc, 100_000)?;
+    for (name, length) in PIECES {
+        let piece = &text[..length.min(text.len())];
+        let mut sure = SureSink::new(alloc);
+        let taken = sure.write(piece);
+        holds(name, taken == Ok(length) && sure.bytes() == Some(piece))?;
+        // The first call fails, and the second takes it whole.
+        let mut sink = MemSink::new(alloc, Vec::from_slice(alloc, &[1])?, 200_000);
+        let failed = sink.write(piece);
+        holds(
+            name,
+            failed == Err(Failed) && sink.bytes() == Some([].as_slice()),
+        )?;
+        let taken = sink.write(piece);
+        holds(name, taken == Ok(length) && sink.bytes() == Some(piece))?;
+    }
     Ok(())
 }
 
-#[test]
-fn reads_a_reader(rt: HostRuntime) -> Result<(), Fail> {
-    let alloc = rt.alloc();
-    let bytes = ascending(alloc, 9_000)?;
-    let mut source = StdSource::new(bytes.as_slice());
-    let read = with_memory(read_all(alloc, &mut source, 9_000))?;
-    assert!(rt; read.ok().is_some_and(|read| read == bytes));
-    let mut source = StdSource::new(Broken);
-    assert!(rt; read_all(alloc, &mut source, 8) == Err(ReadEnd::ReadFault));
-    Ok(())
-}
-
-// A reader that always fails.
+// A reader of sevens, and a writer, that errs at its first call.
 #[derive(Drop)]
-struct Broken;
+struct ErrsOnce {
+    has_erred: bool,
+}
 
-impl Read for Broken {
-    fn read(&mut self, _: &mut [u8]) -> io::Result<usize> {
-        Err(io::Error::from(io::ErrorKind::BrokenPipe))
+impl ErrsOnce {
+    fn next(&mut self, count: usize) -> io::Result<usize>
+        ensures { IfOk result (λ n. n ≡ count) }
+    {
+        if self.has_erred {
+            return Ok(count);
+        }
+        self.has_erred = true;
+        Err(io::Error::from(io::ErrorKind::Interrupted))
+    }
+}
+
+impl Read for ErrsOnce {
+    fn read(&mut self, buf: &mut [u8]) -> io::Result<usize> {
+        let count = self.next(buf.len())?;
+        buf.fill(7);
+        Ok(count)
+    }
+}
+
+impl Write for ErrsOnce {
+    fn write(&mut self, piece: &[u8]) -> io::Result<usize> {
+        self.next(piece.len())
+    }
+
+    fn flush(&mut self) -> io::Result<()> {
+        Ok(())
     }
 }
 
 #[test]
-fn writes_to_a_writer(rt: HostRuntime) -> Result<(), Fail> {
-    let alloc = rt.alloc();
-    let mut written = Vec::new(alloc);
-    let mut sink = StdSink::new(&mut written);
-    write_whole(&mut sink, &[7, 8, 9])?;
-    assert!(rt; written.as_slice() == [7, 8, 9].as_slice());
-    // A writer with room for two bytes takes no more.
+fn a_reader_that_errs_once(_: HostRuntime) -> Result<(), Fail> {
+    let mut buf = [9; 5_000];
+    let mut source = StdSource::new(ErrsOnce { has_erred: false });
+    let failed = source.read(&mut buf);
+    holds(
+        "its error is one fault",
+        failed == Err(Failed) && source.fault_count() == 1,
+    )?;
+    holds("nothing was given", source.given() == 0)?;
+    let long = source.read(&mut buf);
+    holds(
+        "it gives 5,000 bytes",
+        long == Ok(5_000) && source.given() == 5_000,
+    )?;
+    holds(
+        "they are no fault",
+        source.fault_count() == 1 && buf[0] == 7 && buf[4_999] == 7,
+    )
+}
+
+#[test]
+fn a_writer_that_errs_once(_: HostRuntime) -> Result<(), Fail> {
+    let piece = [7; 5_000];
+    let mut sink = StdSink::new(ErrsOnce { has_erred: false });
+    let failed = sink.write(&piece);
+    holds(
+        "its error is one fault",
+        failed == Err(Failed) && sink.fault_count() == 1,
+    )?;
+    holds("nothing was taken", sink.taken() == 0)?;
+    let long = sink.write(&piece);
+    holds(
+        "it takes 5,000 bytes",
+        long == Ok(5_000) && sink.taken() == 5_000,
+    )?;
+    holds("they are no fault", sink.fault_count() == 1)
+}
+
+#[test]
+fn a_writer_that_is_full(_: HostRuntime) -> Result<(), Fail> {
     let mut room = [0; 2];
     let mut sink = StdSink::new(room.as_mut_slice());
-    assert!(rt; write_whole(&mut sink, &[7, 8, 9]) == Err(WriteFault));
-    assert!(rt; room == [7, 8]);
-    Ok(())
+    let end = write_whole(&mut sink, &[7, 8, 9]);
+    holds(
+        "it takes two bytes",
+        end == Err(WriteFault) && sink.taken() == 2,
+    )?;
+    holds(
+        "that it takes no more is one fault",
+        sink.fault_count() == 1,
+    )?;
+    let none = sink.write(&[]);
+    holds(
+        "an empty piece is no fault",
+        none == Ok(0) && sink.fault_count() == 1,
+    )?;
+    holds("the two bytes are there", room == [7, 8])
 }

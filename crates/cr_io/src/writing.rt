@@ -5,9 +5,11 @@ ghost use Rattle.cr_io.specs.Causes.{Rose};
 ghost use Rattle.cr_io.specs.Grown.{GrowsByFront};
 
 use crate::{Failed, Sink};
+use thiserror::Error;
 
 /// The text could not be written whole.
-#[derive(Debug, Drop, Clone, Copy, PartialEq, Eq)]
+#[derive(Debug, Drop, Clone, Copy, PartialEq, Eq, Error)]
+#[error("a write failed")]
 pub struct WriteFault;
 
 /// Appends the whole text. `WriteFault` comes only where the sink's count of faults rose in this

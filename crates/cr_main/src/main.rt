@@ -1,28 +1,40 @@
 //! The program: the top call over the standard streams.
 #![tactic(auto)]
 
+ghost use Rattle.std.specs.Prelude.{◌≡◌};
+ghost use Rattle.std.specs.Process.{exit_status};
+ghost use Rattle.cr_top.specs.Codes.{code_of};
+
 use cr_io::{StdSink, StdSource};
 use cr_top::{Status, ringsearch, write_note};
 use std::process::ExitCode;
 use std::{env, io};
 
 fn main(rt: HostRuntime) -> ExitCode {
-    ExitCode::from(run(&rt).code())
+    ended(&run(&rt))
+}
+
+// The exit status of the program is the number of the status.
+fn ended(status: &Status) -> ExitCode
+    ensures { exit_status result ≡ code_of status.now }
+{
+    ExitCode::from(status.code())
 }
 
 // Searches what stands on standard input. Words that are no UTF-8 are not accepted.
 fn run(rt: &HostRuntime) -> Status {
     let mut notes = StdSink::new(rt.stderr());
-    let words = match words_of(rt) {
-        Ok(words) => words,
+    match words_of(rt) {
+        Ok(words) => {
+            let mut source = StdSource::new(rt.stdin());
+            let mut sink = StdSink::new(rt.stdout());
+            ringsearch(rt, &words, &mut source, &mut sink, &mut notes)
+        }
         Err(status) => {
             write_note(&mut notes, &status);
-            return status;
+            status
         }
-    };
-    let mut source = StdSource::new(rt.stdin());
-    let mut sink = StdSink::new(rt.stdout());
-    ringsearch(rt, &words, &mut source, &mut sink, &mut notes)
+    }
 }
 
 // The words after the program's name.

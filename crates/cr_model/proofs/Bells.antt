@@ -15,7 +15,8 @@ pub record RowLaws : Type 0 where
   pub after_length : (c : Places) (r : List ℕ) → length (after c r) ≡ length r
   pub after_product : AfterProduct
   pub associates : (g h r : List ℕ) → IsRow r → length h ≡ length r → product (product g h) r ≡ product g (product h r)
-  pub one_side : (h r : List ℕ) → IsRow h → IsRow r → length h ≡ length r → product h r ≡ rounds (length h) → IsInverse h r
+  pub one_side : (h r : List ℕ) → IsRow h → IsRow r → length h ≡ length r → product h r ≡ rounds (length h)
+      → IsInverse h r
 
 -- a row of n bells
 pub record IsRowOf (n : ℕ) (row : List ℕ) : Type 0 where
@@ -29,13 +30,15 @@ module _ (laws : RowLaws) where
   after_of : (n : ℕ) (change : Places) (row : List ℕ) → IsRowOf n row → IsRowOf n (after change row)
   after_of n change row h = record { is = laws.after_row change row h.is; long = laws.after_length change row ∙ h.long }
 
-  rows_from_of : (n : ℕ) (row : List ℕ) (changes : List Places) → IsRowOf n row → All (IsRowOf n) (rows_from row changes)
+  rows_from_of : (n : ℕ) (row : List ℕ) (changes : List Places) → IsRowOf n row
+      → All (IsRowOf n) (rows_from row changes)
   rows_from_of n row [] h = All-nil (IsRowOf n)
   rows_from_of n row (change ∷ changes) h =
       let next : IsRowOf n (after change row) = after_of n change row h in
       All-cons (IsRowOf n) (after change row) (rows_from (after change row) changes) next (rows_from_of n (after change row) changes next)
 
-  last_from_of : (n : ℕ) (row : List ℕ) (changes : List Places) → IsRowOf n row → IsRowOf n (last_of row (rows_from row changes))
+  last_from_of : (n : ℕ) (row : List ℕ) (changes : List Places) → IsRowOf n row
+      → IsRowOf n (last_of row (rows_from row changes))
   last_from_of n row [] h = h
   last_from_of n row (change ∷ changes) h = last_from_of n (after change row) changes (after_of n change row h)
 
@@ -48,7 +51,8 @@ module _ (laws : RowLaws) where
   last_is_row n changes = last_from_of n (rounds n) changes (rounds_of n)
 
   -- what g does h undoes
-  pub undone : (n : ℕ) (h g row : List ℕ) → IsRowOf n g → product h g ≡ rounds n → IsRowOf n row → product h (product g row) ≡ row
+  pub undone : (n : ℕ) (h g row : List ℕ) → IsRowOf n g → product h g ≡ rounds n → IsRowOf n row
+      → product h (product g row) ≡ row
   undone n h g row mid home is =
       sym (laws.associates h g row is.is (mid.long ∙ sym is.long)) ∙ ap (λ l. product l row) (home ∙ ap rounds (sym is.long)) ∙ laws.rounds_left row is.is
 

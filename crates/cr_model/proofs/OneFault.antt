@@ -24,11 +24,13 @@ module _ (p : ProblemParts) where
   pub exact_letters : IsExact (letters_check p)
   exact_letters = exact_index (LettersAreRight p.letters) fault.Letters (LettersWrongAt p.letters) letters_fail one_letter
 
-  leads_fail : (i : ℕ) → LeadsWrongAt p.stage (length p.letters) p.leads i → LeadsAreRight p.stage (length p.letters) p.leads → ⊥
+  leads_fail : (i : ℕ) → LeadsWrongAt p.stage (length p.letters) p.leads i
+      → LeadsAreRight p.stage (length p.letters) p.leads → ⊥
   leads_fail i (inl first) right = first.wrong (right.each i first.within)
   leads_fail i (inr unled) right = let led = right.led unled.2.0 unled.2.1 in unled.2.2 led.0 led.1 led.2
 
-  one_lead : (i j : ℕ) → LeadsWrongAt p.stage (length p.letters) p.leads i → LeadsWrongAt p.stage (length p.letters) p.leads j → i ≡ j
+  one_lead : (i j : ℕ) → LeadsWrongAt p.stage (length p.letters) p.leads i
+      → LeadsWrongAt p.stage (length p.letters) p.leads j → i ≡ j
   one_lead i j (inl a) (inl b) = one_first _ _ i j a b
   one_lead i j (inl a) (inr b) = absurd (a.wrong (b.1 i a.within))
   one_lead i j (inr a) (inl b) = absurd (b.wrong (a.1 j b.within))
@@ -52,5 +54,6 @@ module _ (p : ProblemParts) where
   one_part_fault f g a b = one_failure (checks p) all_exact f g a.first b.first
 
 -- a fault refuses the parts
-pub refused : (p : ProblemParts) (f : PartFault) → IsPartFault p f → (false ≡ true → IsSound p) × (IsSound p → false ≡ true)
+pub refused : (p : ProblemParts) (f : PartFault) → IsPartFault p f
+    → (false ≡ true → IsSound p) × (IsSound p → false ≡ true)
 refused p f wrong = (λ h. absurd (false≢true h), λ sound. absurd (sound_has_no_fault p f sound wrong))

@@ -11,7 +11,8 @@ use Rattle.cr_model.proofs.Differing.{differ_swapped, differ_mapped, map_undone}
 use Rattle.cr_model.proofs.Ringing.{rows_on, lengths_on, head_on, rung_from, product_of_rounds}
 
 -- the last of mapped rows
-last_of-map : (f : List ℕ → List ℕ) (row : List ℕ) (rows : List (List ℕ)) → last_of (f row) (map f rows) ≡ f (last_of row rows)
+last_of-map : (f : List ℕ → List ℕ) (row : List ℕ) (rows : List (List ℕ))
+    → last_of (f row) (map f rows) ≡ f (last_of row rows)
 last_of-map f row [] = refl
 last_of-map f row (next ∷ rows) = last_of-map f next rows
 
@@ -21,11 +22,13 @@ module _ (laws : RowLaws) where
   head_is_row p calling = last_is_row laws p.stage (changes_of_all p calling)
 
   -- the rows of joined callings
-  pub rows_joined : (p : ProblemParts) (calling more : List ℕ) → rows_of p (calling ++ more) ≡ rows_of p calling ++ map (product (head_of p calling)) (rows_of p more)
+  pub rows_joined : (p : ProblemParts) (calling more : List ℕ)
+      → rows_of p (calling ++ more) ≡ rows_of p calling ++ map (product (head_of p calling)) (rows_of p more)
   rows_joined p calling more = rows_on p calling more ∙ ap (λ rows. rows_of p calling ++ rows) (rung_from laws.after_product laws.rounds_right p.stage (head_of p calling) (changes_of_all p more) (head_is_row p calling).long)
 
   -- the head of joined callings
-  pub head_joined : (p : ProblemParts) (calling more : List ℕ) → head_of p (calling ++ more) ≡ product (head_of p calling) (head_of p more)
+  pub head_joined : (p : ProblemParts) (calling more : List ℕ)
+      → head_of p (calling ++ more) ≡ product (head_of p calling) (head_of p more)
   head_joined p calling more =
       let head : List ℕ = head_of p calling in
       let long : length (head_of p calling) ≡ p.stage = (head_is_row p calling).long in
@@ -35,7 +38,8 @@ module _ (laws : RowLaws) where
       ∙ last_of-map (product head) (rounds p.stage) (rows_of p more)
 
 -- a rotation is as long
-length_turned : (p : ProblemParts) (calling other : List ℕ) → IsRotation calling other → length_of p other ≡ length_of p calling
+length_turned : (p : ProblemParts) (calling other : List ℕ) → IsRotation calling other
+    → length_of p other ≡ length_of p calling
 length_turned p calling other turned =
     let one : length_of p calling ≡ length_of p turned.0 + length_of p turned.1 = ap (length_of p) turned.2 ∙ lengths_on p turned.0 turned.1 in
     let two : length_of p other ≡ length_of p turned.1 + length_of p turned.0 = ap (length_of p) turned.3 ∙ lengths_on p turned.1 turned.0 in
@@ -83,7 +87,8 @@ module _ (laws : RowLaws) (p : ProblemParts) (front back : List ℕ) (home : pro
       subst AllDiffer (sym (rows_joined laws p back front)) (differ_swapped (map (product (head_of p back)) (rows_of p front)) (rows_of p back) (subst AllDiffer rows_turned all))
 
 -- a rotation of a true touch is a true touch of its length
-pub touch_turned : RowLaws → (p : ProblemParts) (calling other : List ℕ) → TrueTouch p calling → IsRotation calling other → TrueTouch p other × (length_of p other ≡ length_of p calling)
+pub touch_turned : RowLaws → (p : ProblemParts) (calling other : List ℕ) → TrueTouch p calling
+    → IsRotation calling other → TrueTouch p other × (length_of p other ≡ length_of p calling)
 touch_turned laws p calling other touch turned =
     let home : product (head_of p turned.0) (head_of p turned.1) ≡ rounds p.stage = sym (head_joined laws p turned.0 turned.1) ∙ ap (head_of p) (sym turned.2) ∙ touch.home in
     let differ : AllDiffer (rows_of p (turned.0 ++ turned.1)) = subst (λ (c : List ℕ). AllDiffer (rows_of p c)) turned.2 touch.differ in

@@ -1,8 +1,10 @@
 -- A problem file as plain values: its texts and numbers, with the defaults filled in.
-use Rattle.std.specs.Prelude.{◌≡◌, ℕ, ℤ, pos, List, [], map, Option, Some, None, option_map, option_and_then, IsUtf8, codes}
+use Rattle.std.specs.Prelude.{◌≡◌, ℕ, ℤ, pos, List, [], map, Option, Some, None, option_map, option_and_then}
+use Rattle.std.specs.Prelude.{IsUtf8, codes}
 use Rattle.toml.specs.Data.{Data, Members, no_members, get_member, as_str, as_integer}
 use Rattle.toml.specs.Parse.{parse_document}
 use Rattle.cr_model.specs.declared.query.Com.{Com}
+use Rattle.cr_model.specs.Limits.{most_changes}
 use Rattle.cr_model.specs.Keys.{key_faults, members_in, values_in, number_at, text_at}
 
 -- a method, by its letter and its place notation
@@ -36,7 +38,10 @@ pub record FileParts : Type 0 where
   pub «com» : Option Com
 
 abbrev pub method_in : Data → MethodText
-method_in value = record { letter = text_at (codes "letter") (members_in value); notation = text_at (codes "notation") (members_in value) }
+method_in value = record {
+  letter = text_at (codes "letter") (members_in value);
+  notation = text_at (codes "notation") (members_in value);
+}
 
 abbrev pub call_in : Data → CallText
 call_in value = record {
@@ -48,10 +53,17 @@ call_in value = record {
 
 -- the limits are 0 and 12,000 where the file says nothing
 abbrev pub limited_in : List ℕ → Data → Limited
-limited_in name value = record { text = text_at name (members_in value); min = number_at (codes "min") (pos 0) (members_in value); max = number_at (codes "max") (pos 12000) (members_in value) }
+limited_in name value = record {
+  text = text_at name (members_in value);
+  min = number_at (codes "min") (pos 0) (members_in value);
+  max = number_at (codes "max") (pos most_changes) (members_in value);
+}
 
 abbrev pub com_in : Data → Com
-com_in value = record { min = number_at (codes "min") (pos 0) (members_in value); max = number_at (codes "max") (pos 12000) (members_in value) }
+com_in value = record {
+  min = number_at (codes "min") (pos 0) (members_in value);
+  max = number_at (codes "max") (pos most_changes) (members_in value);
+}
 
 -- the members of a table of the top
 abbrev pub part_in : Option Data → Members

@@ -1,5 +1,6 @@
 -- Place notation: which texts spell which changes.
-use Rattle.std.specs.Prelude.{◌≡◌, ℕ, ◌-◌, ◌%◌, ◌≤◌, ◌⊎◌, Bool, true, false, cond, ◌||◌, nat_eq, List, [], ◌∷◌, ◌++◌, length, map, drop, reverse}
+use Rattle.std.specs.Prelude.{◌≡◌, ℕ, ◌-◌, ◌%◌, ◌≤◌, ◌⊎◌, Bool, true, false, cond, ◌||◌, nat_eq, List, [], ◌∷◌}
+use Rattle.std.specs.Prelude.{◌++◌, length, map, drop, reverse}
 use Rattle.std.specs.List.{range_with_len}
 use Rattle.cr_row.specs.Rows.{Places, IsNext}
 use Rattle.cr_row.specs.Symbols.{symbol_of}
@@ -28,7 +29,9 @@ place_of (p ∷ ps) byte = cond (nat_eq byte (symbol_of p)) (place p) (place_of 
 
 -- a cross, a dot, a comma, the symbol of one of the places 1 to 16, or none of these
 abbrev pub sign_of : ℕ → Sign
-sign_of byte = cond (is_cross byte) cross (cond (nat_eq byte 46) dot (cond (nat_eq byte 44) comma (place_of (range_with_len 1 16) byte)))
+sign_of byte =
+    cond (is_cross byte) cross
+    (cond (nat_eq byte 46) dot (cond (nat_eq byte 44) comma (place_of (range_with_len 1 16) byte)))
 
 -- the text without blanks
 abbrev pub signs_of : List ℕ → List Sign
@@ -67,12 +70,15 @@ IsBetween item next signs = (signs ≡ dot ∷ []) ⊎ ((signs ≡ []) × ((is_c
 -- the items that follow an item
 abbrev pub Follow : ℕ → Item → List Item → List Sign → Type 0
 Follow n item [] signs = signs ≡ []
-Follow n item (next ∷ items) signs = (between rest : List Sign) × IsBetween item next between × IsItem n next × Follow n next items rest × (signs ≡ between ++ (item_signs next ++ rest))
+Follow n item (next ∷ items) signs =
+    (between rest : List Sign) × IsBetween item next between × IsItem n next
+    × Follow n next items rest × (signs ≡ between ++ (item_signs next ++ rest))
 
 -- a block: one or more items
 abbrev pub IsBlock : ℕ → List Item → List Sign → Type 0
 IsBlock n [] signs = ⊥
-IsBlock n (item ∷ items) signs = (rest : List Sign) × IsItem n item × Follow n item items rest × (signs ≡ item_signs item ++ rest)
+IsBlock n (item ∷ items) signs =
+    (rest : List Sign) × IsItem n item × Follow n item items rest × (signs ≡ item_signs item ++ rest)
 
 -- place 1, if an odd number of places stands before the first named one
 abbrev pub first_implied : List ℕ → List ℕ
@@ -107,7 +113,10 @@ IsPlain n signs changes = (items : List Item) × IsBlock n items signs × (chang
 
 -- with a comma: two blocks, each mirrored
 abbrev pub IsSymmetric : ℕ → List Sign → List Places → Type 0
-IsSymmetric n signs changes = (first second : List Item) × (left right : List Sign) × IsBlock n first left × IsBlock n second right × (signs ≡ left ++ comma ∷ right) × (changes ≡ mirrored (changes_of_items n first) ++ mirrored (changes_of_items n second))
+IsSymmetric n signs changes =
+    (first second : List Item) × (left right : List Sign) × IsBlock n first left × IsBlock n second right
+    × (signs ≡ left ++ comma ∷ right)
+    × (changes ≡ mirrored (changes_of_items n first) ++ mirrored (changes_of_items n second))
 
 -- the text stands for these changes, however many they are
 abbrev pub StandsFor : ℕ → List ℕ → List Places → Type 0

@@ -1,9 +1,11 @@
 -- Why a text is no place notation: the first fault from the left.
-use Rattle.std.specs.Prelude.{◌≡◌, ℕ, ◌+◌, ◌-◌, ◌%◌, ◌<◌, ◌⊎◌, Bool, true, false, cond, ◌||◌, nat_eq, nat_lt, nat_le, List, [], ◌∷◌, ◌++◌, length, reverse, Option, Some, None}
+use Rattle.std.specs.Prelude.{◌≡◌, ℕ, ◌+◌, ◌-◌, ◌%◌, ◌<◌, ◌⊎◌, Bool, true, false, cond, ◌||◌, nat_eq, nat_lt}
+use Rattle.std.specs.Prelude.{nat_le, List, [], ◌∷◌, ◌++◌, length, reverse, Option, Some, None}
 use Rattle.std.specs.List.{list_any}
 use Rattle.cr_row.specs.Rows.{Places}
 use Rattle.cr_model.specs.declared.notation.NotationFault.{NotationFault}
-use Rattle.cr_model.specs.declared.notation.NotationFault.TheVariants.{Symbol, Above, Order, Gap, CrossOnOdd, Dot, EmptyBlock, SecondComma, Long}
+use Rattle.cr_model.specs.declared.notation.NotationFault.TheVariants.{Symbol, Above, Order, Gap, CrossOnOdd}
+use Rattle.cr_model.specs.declared.notation.NotationFault.TheVariants.{Dot, EmptyBlock, SecondComma, Long}
 use Rattle.cr_model.specs.Notation.{Sign, cross, place, dot, comma, other, end_of_text, is_blank, sign_of, StandsFor}
 
 -- a byte that is no blank, or the end, with its place
@@ -14,7 +16,9 @@ pub record Mark : Type 0 where
 -- the marks of a text whose first byte has place k
 abbrev pub marks_from : ℕ → List ℕ → List Mark
 marks_from k [] = record { at = k; sign = end_of_text } ∷ []
-marks_from k (byte ∷ bytes) = cond (is_blank byte) (marks_from (k + 1) bytes) (record { at = k; sign = sign_of byte } ∷ marks_from (k + 1) bytes)
+marks_from k (byte ∷ bytes) =
+    cond (is_blank byte) (marks_from (k + 1) bytes)
+    (record { at = k; sign = sign_of byte } ∷ marks_from (k + 1) bytes)
 
 abbrev pub marks_of : List ℕ → List Mark
 marks_of text = marks_from 0 text
@@ -81,7 +85,9 @@ fault_at n before k other = Some (Symbol k)
 fault_at n before k (place p) = cond (nat_lt n p) (Some (Above k)) (place_fault k before p)
 fault_at n before k cross = cond (nat_eq (n % 2) 1) (Some (CrossOnOdd k)) None
 fault_at n before k dot = cond (starts_block before || follows_dot before) (Some (Dot k)) None
-fault_at n before k comma = cond (follows_dot before) (Some (Dot (nearest_at before))) (cond (has_comma before) (Some (SecondComma k)) (empty_fault before k))
+fault_at n before k comma =
+    cond (follows_dot before) (Some (Dot (nearest_at before)))
+    (cond (has_comma before) (Some (SecondComma k)) (empty_fault before k))
 fault_at n before k end_of_text = cond (follows_dot before) (Some (Dot (nearest_at before))) (empty_fault before k)
 
 -- no fault at any of these marks, the nearest first

@@ -18,4 +18,5 @@ dot_between (p ∷ ps) (q ∷ qs) = 46 ∷ []
 abbrev pub canonical_text : List Places → List ℕ
 canonical_text [] = []
 canonical_text (change ∷ []) = places_text change.made
-canonical_text (change ∷ next ∷ changes) = (places_text change.made ++ dot_between change.made next.made) ++ canonical_text (next ∷ changes)
+canonical_text (change ∷ next ∷ changes) =
+    (places_text change.made ++ dot_between change.made next.made) ++ canonical_text (next ∷ changes)

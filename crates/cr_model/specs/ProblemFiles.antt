@@ -1,5 +1,7 @@
 -- Which bytes are a problem file, and of which problem; and why others are none.
-use Rattle.std.specs.Prelude.{◌≡◌, ◌≢◌, ℕ, ◌-◌, ◌+◌, ◌<◌, ◌≤◌, ◌⊎◌, ℤ, pos, ◌≤ℤ◌, nat_abs, Bool, true, cond, ◌&&◌, nat_eq, List, [], ◌∷◌, length, get_or, map, flat_map, Option, Some, None, IfSome, option_map, unwrap_or, codes}
+use Rattle.std.specs.Prelude.{◌≡◌, ◌≢◌, ℕ, ◌-◌, ◌+◌, ◌<◌, ◌≤◌, ◌⊎◌, ℤ, pos, ◌≤ℤ◌, nat_abs, Bool, true, cond}
+use Rattle.std.specs.Prelude.{◌&&◌, nat_eq, List, [], ◌∷◌, length, get_or, map, flat_map, Option, Some, None}
+use Rattle.std.specs.Prelude.{IfSome, option_map, unwrap_or, codes}
 use Rattle.std.specs.List.{range_with_len, list_any, find, AllZip}
 use Rattle.toml.specs.Data.{Members}
 use Rattle.cr_row.specs.Rows.{Places}
@@ -17,8 +19,11 @@ use Rattle.cr_model.specs.declared.file_fault.ProblemFault.{ProblemFault}
 use Rattle.cr_model.specs.declared.file_fault.ProblemFault.TheVariants as fault
 use Rattle.cr_model.specs.Problems.{LeadParts, PatternParts, QueryParts, ProblemParts, parts_from}
 use Rattle.cr_model.specs.Callings.{called}
-use Rattle.cr_model.specs.Sound.{plain, LetterIsRight, IsSound}
-use Rattle.cr_model.specs.Faults.{IsFirstWrong, IsPartFault}
+use Rattle.cr_model.specs.Limits.{most_lead_changes}
+use Rattle.cr_model.specs.Checks.{IsFirstWrong}
+use Rattle.cr_model.specs.Right.{plain, LetterIsRight}
+use Rattle.cr_model.specs.Sound.{IsSound}
+use Rattle.cr_model.specs.Faults.{IsPartFault}
 use Rattle.cr_model.specs.Notation.{Spells}
 use Rattle.cr_model.specs.NotationFaults.{FirstFault}
 use Rattle.cr_model.specs.Keys.{key_faults}
@@ -72,7 +77,8 @@ called_tune file tunes call method = called (over_at file call) (tune_at tunes.c
 
 -- the call for a method with a mark
 abbrev pub call_with : FileParts → ℕ → ℕ → Option ℕ
-call_with file method mark = find (λ call. nat_eq (mark_at file call) mark && is_for file call method) (range_with_len 0 (length file.calls))
+call_with file method mark =
+    find (λ call. nat_eq (mark_at file call) mark && is_for file call method) (range_with_len 0 (length file.calls))
 
 abbrev pub lead_from : ℕ → ℕ → List Places → LeadParts
 lead_from method mark changes = record { step = record { method = method; mark = mark }; changes = changes }
@@ -125,7 +131,7 @@ parts_of n file tunes = parts_from n (letters_of file) (leads_of file tunes) (qu
 
 -- `over` is 0 to 128, if the call has it
 abbrev pub OverIsRight : FileParts → ℕ → Type 0
-OverIsRight file call = IfSome (call_at file call).over (λ over. (pos 0 ≤ℤ over) × (over ≤ℤ pos 128))
+OverIsRight file call = IfSome (call_at file call).over (λ over. (pos 0 ≤ℤ over) × (over ≤ℤ pos most_lead_changes))
 
 -- one byte `a` to `z`, and not the mark of a plain lead
 pub record MarkIsRight (mark : ℕ) : Type 0 where
@@ -136,15 +142,28 @@ pub record MarkIsRight (mark : ℕ) : Type 0 where
 -- a call replaces no more changes than the method has, and gives a lead of at most 128
 pub record Fits (file : FileParts) (tunes : Tunes) (call method : ℕ) : Type 0 where
   pub over : unwrap_or (over_at file call) (length (tune_at tunes.calls call)) ≤ length (tune_at tunes.methods method)
-  pub short : length (called_tune file tunes call method) ≤ 128
+  pub short : length (called_tune file tunes call method) ≤ most_lead_changes
+
+-- the call fits the method, if it is for it
+abbrev pub Suits : FileParts → Tunes → ℕ → ℕ → Type 0
+Suits file tunes call method = is_for file call method ≡ true → Fits file tunes call method
 
 -- the call fits each method that it is for
 abbrev pub FitsAll : FileParts → Tunes → ℕ → Type 0
-FitsAll file tunes call = (method : ℕ) → method < length file.methods → is_for file call method ≡ true → Fits file tunes call method
+FitsAll file tunes call = (method : ℕ) → method < length file.methods → Suits file tunes call method
+
+-- two calls have no method in common
+abbrev pub ShareNoMethod : FileParts → ℕ → ℕ → Type 0
+ShareNoMethod file first second =
+    (method : ℕ) → method < length file.methods → is_for file first method ≡ true → is_for file second method ≡ true → ⊥
 
 -- two calls have no mark and method in common
 abbrev pub AreApart : FileParts → ℕ → ℕ → Type 0
-AreApart file first second = mark_at file first ≡ mark_at file second → (method : ℕ) → method < length file.methods → is_for file first method ≡ true → is_for file second method ≡ true → ⊥
+AreApart file first second = mark_at file first ≡ mark_at file second → ShareNoMethod file first second
+
+-- a call and each one before it have no mark and method in common
+abbrev pub IsApart : FileParts → ℕ → Type 0
+IsApart file second = (first : ℕ) → first < second → AreApart file first second
 
 -- The checks that come first hold, one more each time.
 pub record StagePasses (file : FileParts) (n : ℕ) : Type 0 where
@@ -178,7 +197,7 @@ pub record LengthsPass (file : FileParts) (n : ℕ) (tunes : Tunes) : Type 0 whe
 
 pub record CallsPass (file : FileParts) (n : ℕ) (tunes : Tunes) : Type 0 where
   pub before : LengthsPass file n tunes
-  pub apart : (second : ℕ) → second < length file.calls → (first : ℕ) → first < second → AreApart file first second
+  pub apart : (second : ℕ) → second < length file.calls → IsApart file second
 
 -- the values of a file, all of whose calls are right, make these parts of a problem
 pub record Makes (file : FileParts) (p : ProblemParts) : Type 0 where
@@ -211,13 +230,24 @@ MakesWrong file why = (p : ProblemParts) × Makes file p × IsPartFault p why
 -- the fault is that of the first check of the values that does not hold
 abbrev pub IsFileFault : FileParts → ProblemFault → Type 0
 IsFileFault file (fault.Stage stage) = (stage ≡ file.stage) × (((pos 3 ≤ℤ stage) × (stage ≤ℤ pos 16)) → ⊥)
-IsFileFault file (fault.Letter i) = (n : ℕ) × StagePasses file n × IsFirstWrong (LetterIsRight (letters_of file)) (length file.methods) i
-IsFileFault file (fault.Notation (whose.Method i) why) = (n : ℕ) × LettersPass file n × IsFirstUnspelled n (method_texts file) i why
-IsFileFault file (fault.Notation (whose.Call i) why) = (n : ℕ) × (methods : List (List Places)) × MethodsSpell file n methods × IsFirstUnspelled n (call_texts file) i why
-IsFileFault file (fault.Over call) = (n : ℕ) × (tunes : Tunes) × CallsSpell file n tunes × IsFirstWrong (OverIsRight file) (length file.calls) call
-IsFileFault file (fault.Mark call) = (n : ℕ) × (tunes : Tunes) × OversPass file n tunes × IsFirstWrong (λ i. MarkIsRight (mark_at file i)) (length file.calls) call
-IsFileFault file (fault.CallLength call method) = (n : ℕ) × (tunes : Tunes) × MarksPass file n tunes × IsFirstWrong (FitsAll file tunes) (length file.calls) call × IsFirstWrong (λ m. is_for file call m ≡ true → Fits file tunes call m) (length file.methods) method
-IsFileFault file (fault.Clash first second) = (n : ℕ) × (tunes : Tunes) × LengthsPass file n tunes × IsFirstWrong (λ j. (i : ℕ) → i < j → AreApart file i j) (length file.calls) second × IsFirstWrong (λ i. AreApart file i second) second first
+IsFileFault file (fault.Letter i) =
+    (n : ℕ) × StagePasses file n × IsFirstWrong (LetterIsRight (letters_of file)) (length file.methods) i
+IsFileFault file (fault.Notation (whose.Method i) why) =
+    (n : ℕ) × LettersPass file n × IsFirstUnspelled n (method_texts file) i why
+IsFileFault file (fault.Notation (whose.Call i) why) =
+    (n : ℕ) × (methods : List (List Places)) × MethodsSpell file n methods
+    × IsFirstUnspelled n (call_texts file) i why
+IsFileFault file (fault.Over call) =
+    (n : ℕ) × (tunes : Tunes) × CallsSpell file n tunes × IsFirstWrong (OverIsRight file) (length file.calls) call
+IsFileFault file (fault.Mark call) =
+    (n : ℕ) × (tunes : Tunes) × OversPass file n tunes
+    × IsFirstWrong (λ i. MarkIsRight (mark_at file i)) (length file.calls) call
+IsFileFault file (fault.CallLength call method) =
+    (n : ℕ) × (tunes : Tunes) × MarksPass file n tunes × IsFirstWrong (FitsAll file tunes) (length file.calls) call
+    × IsFirstWrong (Suits file tunes call) (length file.methods) method
+IsFileFault file (fault.Clash first second) =
+    (n : ℕ) × (tunes : Tunes) × LengthsPass file n tunes × IsFirstWrong (IsApart file) (length file.calls) second
+    × IsFirstWrong (λ i. AreApart file i second) second first
 IsFileFault file (fault.Steps number) = MakesWrong file (part.Steps number)
 IsFileFault file (fault.Range low high) = MakesWrong file (part.Range low high)
 IsFileFault file (fault.Deep depth) = MakesWrong file (part.Deep depth)
@@ -230,5 +260,6 @@ IsFileFault file _ = ⊥
 -- the fault is that of the first check that does not hold
 abbrev pub FirstProblemFault : List ℕ → ProblemFault → Type 0
 FirstProblemFault bytes fault.NotToml = (table : Members) → Reads bytes table → ⊥
-FirstProblemFault bytes (fault.Key path) = (table : Members) × (rest : List (List ℕ)) × Reads bytes table × (key_faults table ≡ path ∷ rest)
+FirstProblemFault bytes (fault.Key path) =
+    (table : Members) × (rest : List (List ℕ)) × Reads bytes table × (key_faults table ≡ path ∷ rest)
 FirstProblemFault bytes why = (file : FileParts) × IsFile bytes file × IsFileFault file why

@@ -3,7 +3,7 @@ use Rattle.std.proofs.Common.{◌≡◌, ℕ, ◌+◌, ◌-◌, ◌%◌, ◌≤�
 use Rattle.std.specs.Prelude.{nat_eq}
 use Rattle.std.proofs.lemmas.Bool.Decides.{nat_tests}
 use Rattle.cr_row.specs.Rows.{IsChain, IsChange}
-use Rattle.cr_model.specs.Notation.{group, first_implied, last_implied, change_of, IsNamed}
+use Rattle.cr_model.specs.Notation.{group, crossing, first_implied, last_implied, change_of, IsNamed}
 
 -- ---- a group's
 
@@ -37,5 +37,5 @@ pub group_is_change : (n : ℕ) (named : List ℕ) → IsNamed n named → 1 ≤
 group_is_change n named h low = group_chain n named h low
 
 -- a cross on an even stage is one too
-pub cross_chain : (n : ℕ) → n % 2 ≡ 0 → IsChain n 0 []
-cross_chain n even = (omega arith, omega arith)
+pub cross_is_change : (n : ℕ) → n % 2 ≡ 0 → IsChange (change_of n crossing)
+cross_is_change n even = (omega arith, omega arith)

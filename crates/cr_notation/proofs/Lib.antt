@@ -5,6 +5,9 @@ pub mod First
 pub mod Decided
 pub mod Chains
 pub mod Mirrors
+pub mod Keeping
+pub mod KeptReading
+pub mod Taken
 pub mod Signs
 pub mod Refined
 pub mod Written

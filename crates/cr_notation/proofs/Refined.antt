@@ -8,8 +8,9 @@ use Rattle.cr_model.specs.declared.notation.NotationFault.{NotationFault}
 use Rattle.cr_model.specs.declared.notation.NotationFault.TheVariants as fault
 use Rattle.cr_model.specs.Notation.{Spells}
 use Rattle.cr_model.specs.NotationFaults.{FirstFault}
-use Rattle.cr_notation.specs.Reading.{State, fresh, byte_step, end_step, then_all, read_from, limited, read_all}
+use Rattle.cr_notation.specs.Reading.{State, kept_of, kept_read, byte_step, end_step, then_all, read_from, limited, read_all}
 use Rattle.cr_notation.specs.Refining.{Fails, Gives}
+use Rattle.cr_notation.proofs.KeptReading.{rest_kept}
 use Rattle.cr_notation.proofs.Decided.{IsAnswer, read_answers}
 
 -- one byte more
@@ -17,10 +18,21 @@ byte_first : (n : ℕ) (s : State) (i : ℕ) (bytes : List ℕ) → i < length b
 unfolding read_from
 byte_first n s i bytes low = ap (read_from n s i) (drop_more bytes i 0 low)
 
-pub one_more : (n : ℕ) (s after : State) (i : ℕ) (bytes : List ℕ) (total : Result (List Places) NotationFault) → i < length bytes → byte_step n s i (get_or bytes i 0) ≡ Ok after
-    → read_from n s i (drop i bytes) ≡ total → read_from n after (i + 1) (drop (i + 1) bytes) ≡ total
-one_more n s after i bytes total low steps so_far =
-    sym (byte_first n s i bytes low ∙ ap (λ r. then_all r (λ t. read_from n t (i + 1) (drop (i + 1) bytes))) steps) ∙ so_far
+same_ok : (s t : State) → kept_read (Ok s) ≡ kept_read (Ok t) → kept_of s ≡ kept_of t
+same_ok s t same = cc
+
+ok_read : (r : Result State NotationFault) (after : State) → kept_read r ≡ kept_read (Ok after) → (t : State) × (r ≡ Ok t) × (kept_of t ≡ kept_of after)
+ok_read (Ok t) after same = (t, refl, same_ok t after same)
+ok_read (Err f) after same = absurd (cc)
+
+pub one_more : (n m : ℕ) (s after : State) (i : ℕ) (bytes : List ℕ) (total : Result (List Places) NotationFault) → i < length bytes
+    → kept_read (byte_step n s i (get_or bytes i 0)) ≡ kept_read (Ok after)
+    → limited m (read_from n s i (drop i bytes)) ≡ total → limited m (read_from n after (i + 1) (drop (i + 1) bytes)) ≡ total
+one_more n m s after i bytes total low steps so_far =
+    let rest : List ℕ = drop (i + 1) bytes in
+    let (t, is, same) = ok_read (byte_step n s i (get_or bytes i 0)) after steps in
+    let first : read_from n s i (drop i bytes) ≡ read_from n t (i + 1) rest = byte_first n s i bytes low ∙ ap (λ r. then_all r (λ u. read_from n u (i + 1) rest)) is in
+    sym (rest_kept m n after (i + 1) rest) ∙ ap (λ u. limited m (read_from n u (i + 1) rest)) (sym same) ∙ rest_kept m n t (i + 1) rest ∙ ap (limited m) (sym first) ∙ so_far
 
 -- a fault goes through
 pub fails_by : {A B : Type 0} (f : NotationFault) (r : Result A NotationFault) (all : Result B NotationFault) → ((g : NotationFault) → r ≡ Err g → all ≡ Err g) → Fails f r → Fails f all
@@ -47,35 +59,18 @@ fails_is (fault.EmptyBlock k) r other h = h
 fails_is (fault.SecondComma k) r other h = h
 fails_is (fault.Long k) r other h = h
 
-pub stops : (n : ℕ) (s : State) (i : ℕ) (bytes : List ℕ) (f : NotationFault) → i < length bytes → Fails f (byte_step n s i (get_or bytes i 0))
-    → read_from n s i (drop i bytes) ≡ read_from n fresh 0 bytes → Fails f (read_all n bytes)
-unfolding read_all
-stops n s i bytes f low fails so_far =
-    fails_by f (byte_step n s i (get_or bytes i 0)) (limited (length bytes) (read_from n fresh 0 bytes)) (λ g e.
-    ap (limited (length bytes)) (sym so_far ∙ byte_first n s i bytes low ∙ ap (λ r. then_all r (λ t. read_from n t (i + 1) (drop (i + 1) bytes))) e)) fails
+pub stops : (n m : ℕ) (s : State) (i : ℕ) (bytes : List ℕ) (f : NotationFault) (total : Result (List Places) NotationFault) → i < length bytes
+    → Fails f (byte_step n s i (get_or bytes i 0)) → limited m (read_from n s i (drop i bytes)) ≡ total → Fails f total
+stops n m s i bytes f total low fails so_far =
+    fails_by f (byte_step n s i (get_or bytes i 0)) total (λ g e.
+    sym so_far ∙ ap (limited m) (byte_first n s i bytes low ∙ ap (λ r. then_all r (λ t. read_from n t (i + 1) (drop (i + 1) bytes))) e)) fails
 
 -- the end
-at_end : (n : ℕ) (s : State) (i : ℕ) (bytes : List ℕ) → i ≡ length bytes → read_from n s i (drop i bytes) ≡ read_from n fresh 0 bytes → read_from n fresh 0 bytes ≡ end_step n s (length bytes)
+pub at_end : (n m : ℕ) (s : State) (i : ℕ) (bytes : List ℕ) (total : Result (List Places) NotationFault) → i ≡ length bytes
+    → limited m (read_from n s i (drop i bytes)) ≡ total → limited m (end_step n s (length bytes)) ≡ total
 unfolding read_from
-at_end n s i bytes whole so_far =
-    sym so_far ∙ ap (read_from n s i) (drop_all i bytes (omega arith)) ∙ ap (end_step n s) whole
-
-pub end_fails : (n : ℕ) (s : State) (i : ℕ) (bytes : List ℕ) (f : NotationFault) → i ≡ length bytes → Fails f (end_step n s (length bytes)) → read_from n s i (drop i bytes) ≡ read_from n fresh 0 bytes → Fails f (read_all n bytes)
-unfolding read_all
-end_fails n s i bytes f whole fails so_far =
-    fails_by f (end_step n s (length bytes)) (limited (length bytes) (read_from n fresh 0 bytes)) (λ g e. ap (limited (length bytes)) (at_end n s i bytes whole so_far ∙ e)) fails
-
-pub ends_long : (n : ℕ) (s : State) (i : ℕ) (bytes : List ℕ) (changes : List Places) → i ≡ length bytes → end_step n s (length bytes) ≡ Ok changes → 128 < length changes → read_from n s i (drop i bytes) ≡ read_from n fresh 0 bytes → read_all n bytes ≡ Err (fault.Long (length bytes))
-unfolding read_all
-ends_long n s i bytes changes whole e many so_far =
-    let test : nat_lt 128 (length changes) ≡ true = grind (arith, nat_tests) in
-    ap (limited (length bytes)) (at_end n s i bytes whole so_far ∙ e) ∙ ap (λ b. cond b (Err (fault.Long (length bytes))) (Ok changes)) test
-
-pub ends : (n : ℕ) (s : State) (i : ℕ) (bytes : List ℕ) (changes : List Places) → i ≡ length bytes → end_step n s (length bytes) ≡ Ok changes → length changes ≤ 128 → read_from n s i (drop i bytes) ≡ read_from n fresh 0 bytes → read_all n bytes ≡ Ok changes
-unfolding read_all
-ends n s i bytes changes whole e few so_far =
-    let test : nat_lt 128 (length changes) ≡ false = grind (arith, nat_tests) in
-    ap (limited (length bytes)) (at_end n s i bytes whole so_far ∙ e) ∙ ap (λ b. cond b (Err (fault.Long (length bytes))) (Ok changes)) test
+at_end n m s i bytes total whole so_far =
+    sym (ap (limited m) (ap (read_from n s i) (drop_all i bytes (omega arith)) ∙ ap (end_step n s) whole)) ∙ so_far
 
 -- what reading gives is what the text spells, or its first fault
 pub spelled : {X : Type 0} (view : X → List Places) (n : ℕ) (text : List ℕ) (r : Result X NotationFault) → Gives view r (read_all n text) → IfOk r (λ x. Spells n text (view x))

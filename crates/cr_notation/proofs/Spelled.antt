@@ -7,7 +7,7 @@ use Rattle.std.proofs.lemmas.List.Elements.{All-from_recursion}
 use Rattle.cr_row.specs.Rows.{Places, IsChange}
 use Rattle.cr_row.specs.Symbols.{symbol_of}
 use Rattle.cr_model.specs.Notation.{Sign, cross, place, dot, comma, is_blank, is_cross, place_of, sign_of, signs_of, Item, crossing, group, item_signs, IsItem, Follow, IsBlock, change_of, changes_of_items, mirrored, StandsFor, Spells}
-use Rattle.cr_notation.proofs.Chains.{group_chain, cross_chain}
+use Rattle.cr_notation.proofs.Chains.{group_chain, cross_is_change}
 use Rattle.cr_notation.proofs.Canonical.{IsOf}
 
 -- ---- lists
@@ -63,7 +63,7 @@ signs_counted (byte ∷ bytes) = either (is_blank byte) (signs_counted bytes)
 -- ---- blocks
 
 item_change : (n : ℕ) (item : Item) → IsItem n item → AllByRecursion IsCounted (item_signs item) → IsOf n (change_of n item)
-item_change n crossing even h = record { stage = refl; chain = cross_chain n even }
+item_change n crossing even h = record { stage = refl; chain = cross_is_change n even }
 item_change n (group []) rules h = absurd rules
 item_change n (group (p ∷ ps)) rules h = record { stage = refl; chain = group_chain n (p ∷ ps) rules h.0 }
 

@@ -1,19 +1,36 @@
 -- Reading from left to right, one step a byte.
-use Rattle.std.specs.Prelude.{ℕ, ◌+◌, ◌-◌, ◌%◌, Bool, true, false, cond, nat_eq, nat_lt, nat_le, List, [], ◌∷◌, ◌++◌, length, Result, Ok, Err}
+use Rattle.std.specs.Prelude.{ℕ, ◌+◌, ◌-◌, ◌%◌, Bool, true, false, cond, nat_eq, nat_lt, nat_le, List, [], ◌∷◌}
+use Rattle.std.specs.Prelude.{◌++◌, length, take, Option, Some, None, Result, Ok, Err}
 use Rattle.cr_row.specs.Rows.{Places}
 use Rattle.cr_model.specs.declared.notation.NotationFault.{NotationFault}
-use Rattle.cr_model.specs.declared.notation.NotationFault.TheVariants.{Symbol, Above, Order, Gap, CrossOnOdd, Dot, EmptyBlock, SecondComma, Long}
-use Rattle.cr_model.specs.Notation.{Sign, cross, place, dot, comma, other, end_of_text, is_blank, sign_of, group, crossing, last_named, change_of, mirrored, IsNamed}
+use Rattle.cr_model.specs.declared.notation.NotationFault.TheVariants.{Symbol, Above, Order, Gap, CrossOnOdd}
+use Rattle.cr_model.specs.declared.notation.NotationFault.TheVariants.{Dot, EmptyBlock, SecondComma, Long}
+use Rattle.cr_model.specs.Notation.{Sign, cross, place, dot, comma, other, end_of_text, is_blank, sign_of}
+use Rattle.cr_model.specs.Notation.{group, crossing, last_named, change_of, mirrored, IsNamed}
 use Rattle.cr_notation.specs.declared.reader.Last.{Last}
 use Rattle.cr_notation.specs.declared.reader.Last.TheVariants as last
 
--- what was read: the changes of a block that a comma ended, those of the block since, and the places named in the open group
+-- what was read: the changes of a block that a comma ended, those of the block since, and the places named
+-- in the open group
 pub record State : Type 0 where
   pub comma_seen : Bool
   pub done : List Places
   pub block : List Places
   pub named : List ℕ
   pub last : Last
+
+-- a list up to its first change that is too many, which tells that a text is too long
+unfoldable pub kept : List Places → List Places
+kept changes = take 129 changes
+
+-- what is kept of what was read
+abbrev pub kept_of : State → State
+kept_of s = record s { done = kept s.done; block = kept s.block }
+
+-- what is kept of what a step gives
+abbrev pub kept_read : Result State NotationFault → Result State NotationFault
+kept_read (Ok s) = Ok (kept_of s)
+kept_read (Err f) = Err f
 
 -- nothing was read yet
 abbrev pub fresh : State
@@ -32,7 +49,9 @@ closed n s = closed_by n s.last s.named s.block
 
 -- one more place of the open group
 abbrev pub more_named : State → ℕ → ℕ → Result State NotationFault
-more_named s k p = cond (nat_le p (last_named s.named)) (Err (Order k)) (cond (nat_eq ((p - last_named s.named - 1) % 2) 1) (Err (Gap k)) (Ok (record s { named = s.named ++ p ∷ [] })))
+more_named s k p =
+    cond (nat_le p (last_named s.named)) (Err (Order k))
+    (cond (nat_eq ((p - last_named s.named - 1) % 2) 1) (Err (Gap k)) (Ok (record s { named = s.named ++ p ∷ [] })))
 
 -- the first place of a group
 abbrev pub first_named : State → ℕ → State
@@ -45,13 +64,19 @@ named_after (last.Dot d) s k p = Ok (first_named s p)
 named_after last.Cross s k p = Ok (first_named s p)
 named_after last.Group s k p = more_named s k p
 
+-- the change without places, where the stage has it
+abbrev pub cross_on : ℕ → Option Places
+cross_on n = cond (nat_eq (n % 2) 1) None (Some (change_of n crossing))
+
 -- the symbol of place p, at byte k
 unfoldable pub place_step : ℕ → State → ℕ → ℕ → Result State NotationFault
 place_step n s k p = cond (nat_lt n p) (Err (Above k)) (named_after s.last s k p)
 
 -- a cross at byte k
 unfoldable pub cross_step : ℕ → State → ℕ → Result State NotationFault
-cross_step n s k = cond (nat_eq (n % 2) 1) (Err (CrossOnOdd k)) (Ok (record s { block = closed n s ++ change_of n crossing ∷ []; named = []; last = last.Cross }))
+cross_step n s k =
+    cond (nat_eq (n % 2) 1) (Err (CrossOnOdd k))
+    (Ok (record s { block = closed n s ++ change_of n crossing ∷ []; named = []; last = last.Cross }))
 
 -- a dot at byte k, by what stands before it
 abbrev pub dot_after : ℕ → Last → State → ℕ → Result State NotationFault
@@ -66,7 +91,8 @@ dot_step n s k = dot_after n s.last s k
 
 -- the block ends: its changes with those before it
 abbrev pub ended : ℕ → State → State
-ended n s = record s { done = s.done ++ mirrored (closed n s); block = []; named = []; comma_seen = true; last = last.Nothing }
+ended n s =
+    record s { done = s.done ++ mirrored (closed n s); block = []; named = []; comma_seen = true; last = last.Nothing }
 
 -- a comma at byte k, by what stands before it
 abbrev pub comma_after : ℕ → Last → State → ℕ → Result State NotationFault
@@ -108,7 +134,8 @@ unfoldable pub byte_step : ℕ → State → ℕ → ℕ → Result State Notati
 byte_step n s k byte = cond (is_blank byte) (Ok s) (step n s k (sign_of byte))
 
 -- a fault ends the reading
-abbrev pub then_all : Result State NotationFault → (State → Result (List Places) NotationFault) → Result (List Places) NotationFault
+abbrev pub then_all : Result State NotationFault → (State → Result (List Places) NotationFault)
+    → Result (List Places) NotationFault
 then_all (Ok s) next = next s
 then_all (Err f) next = Err f
 

@@ -9,12 +9,14 @@ ghost use Rattle.cr_model.specs.declared.notation.NotationFault.{NotationFault};
 
 /// Every text spells changes, or has a first fault.
 pub fn a_text_is_taken_or_refused()
-    ensures { (n : ℕ) (text : List ℕ) → ((changes : List Places) × Spells n text changes) ⊎ ((fault : NotationFault) × FirstFault n text fault) }
+    ensures { (n : ℕ) (text : List ℕ) → ((changes : List Places) × Spells n text changes)
+        ⊎ ((fault : NotationFault) × FirstFault n text fault) }
 {}
 
 /// No text does both.
 pub fn no_text_is_taken_and_refused()
-    ensures { (n : ℕ) (text : List ℕ) (changes : List Places) (fault : NotationFault) → Spells n text changes → FirstFault n text fault → ⊥ }
+    ensures { (n : ℕ) (text : List ℕ) (changes : List Places) (fault : NotationFault) →
+        Spells n text changes → FirstFault n text fault → ⊥ }
 {}
 
 /// A text spells one list of changes at most.
@@ -24,13 +26,15 @@ pub fn a_text_spells_one_list()
 
 /// A text has one first fault at most.
 pub fn a_text_has_one_first_fault()
-    ensures { (n : ℕ) (text : List ℕ) (one other : NotationFault) → FirstFault n text one → FirstFault n text other → one ≡ other }
+    ensures { (n : ℕ) (text : List ℕ) (one other : NotationFault) →
+        FirstFault n text one → FirstFault n text other → one ≡ other }
 {}
 
 /// What a text spells are changes of the stage: the places that are named and implied ascend, and
 /// each stretch of places not made has an even length.
 pub fn spelled_changes_are_changes()
-    ensures { (n : ℕ) (text : List ℕ) (changes : List Places) → Spells n text changes → All (λ change. (change.stage ≡ n) × IsChange change) changes }
+    ensures { (n : ℕ) (text : List ℕ) (changes : List Places) → Spells n text changes →
+        All (λ change. (change.stage ≡ n) × IsChange change) changes }
 {}
 
 /// The canonical text of 1 to 128 changes of one stage spells them.

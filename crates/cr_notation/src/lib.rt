@@ -1,6 +1,7 @@
 //! Place notation: texts that spell changes.
 #![tactic(auto)]
 
+mod kept;
 mod laws;
 mod reader;
 mod writer;

@@ -1,22 +1,24 @@
 //! Reading byte by byte.
 
-ghost use Rattle.std.specs.Prelude.{◌≡◌, ◌≢◌, ◌⊎◌, ◌%◌, ◌≤◌, ◌++◌, List, [], length, get_or, IfOk, OnOk, IfErr, MatchResult};
+ghost use Rattle.std.specs.Prelude.{◌≡◌, ◌≢◌, ◌⊎◌, ◌≤◌, ◌++◌, List, [], length, get_or};
+ghost use Rattle.std.specs.Prelude.{IfOk, OnOk, IfErr, MatchResult};
 ghost use Rattle.cr_row.specs.Rows.{Places};
 ghost use Rattle.cr_model.specs.declared.notation.NotationFault.{NotationFault};
-ghost use Rattle.cr_model.specs.Notation.{Spells, is_blank, is_cross, IsNamed, group, change_of, mirrored, first_implied, last_implied, last_named};
+ghost use Rattle.cr_model.specs.Notation.{Spells, is_blank, is_cross, IsNamed, group, change_of};
+ghost use Rattle.cr_model.specs.Notation.{first_implied, last_implied, last_named};
 ghost use Rattle.cr_model.specs.NotationFaults.{FirstFault};
-ghost use Rattle.cr_notation.specs.Reading.{fresh, first_named, more_named, place_step, cross_step, dot_step, comma_step, end_step, byte_step, read_all};
-ghost use Rattle.cr_notation.specs.Refining.{state_of, shut, IsReady, Steps, Gives};
+ghost use Rattle.cr_notation.specs.declared.reader.Last.TheVariants as last;
+ghost use Rattle.cr_notation.specs.Reading.{fresh, first_named, more_named, place_step, cross_on, cross_step};
+ghost use Rattle.cr_notation.specs.Reading.{dot_step, comma_step, whole, end_step, byte_step, limited, read_all, kept};
+ghost use Rattle.cr_notation.specs.Refining.{state_of, IsAdded, IsShut, IsReady, Steps, Gives};
 
+use crate::kept::{Kept, MOST};
 use crate::laws::{
     a_text_has_one_first_fault, a_text_spells_one_list, no_text_is_taken_and_refused,
 };
 use cr_model::NotationFault;
 use cr_row::{Change, Stage, bell_of};
 use std::alloc::{AllocError, Global};
-
-// The most changes that a text may spell.
-const MOST: usize = 128;
 
 /// What stands just before, in the block.
 #[derive(Clone, Copy)]
@@ -30,27 +32,33 @@ enum Last {
     Group,
 }
 
-// What was read so far.
+// What was read so far, for a stage.
 #[derive(Drop)]
 struct Reader {
+    stage: Stage,
+    // The change without places, where the stage has it.
+    cross: Option<Change>,
     comma_seen: bool,
     // The changes of a block that a comma ended, to the last one and back.
-    done: Vec<Change>,
+    done: Kept,
     // Those of the block since, without the open group's.
-    block: Vec<Change>,
+    block: Kept,
     // The places named in the open group.
     named: Vec<u8>,
     last: Last,
 }
 
 impl Reader {
-    fn new(alloc: Global) -> Reader
-        ensures { state_of result ≡ fresh }
+    fn new(alloc: Global, stage: Stage) -> Reader
+        ensures nothing { state_of result ≡ fresh }
+        ensures ready { IsReady stage result }
     {
         Reader {
+            stage,
+            cross: cross_on(stage),
             comma_seen: false,
-            done: Vec::new(alloc),
-            block: Vec::new(alloc),
+            done: Kept::new(alloc),
+            block: Kept::new(alloc),
             named: Vec::new(alloc),
             last: Last::Nothing,
         }
@@ -58,54 +66,54 @@ impl Reader {
 
     // Reads one byte, at its place.
     #[tactic(auto, unfolding(crate::specs::Reading::byte_step, crate::specs::Reading::step))]
-    fn take(&mut self, stage: Stage, at: u64, byte: u8) -> Result<(), NotationFault>
-        requires { IsReady stage (state_of self.old) }
-        ensures steps { Steps result (byte_step stage (state_of self.old) at byte) (state_of self.new) }
-        ensures ready { OnOk result (IsReady stage (state_of self.new)) }
+    fn take(&mut self, at: u64, byte: u8) -> Result<(), NotationFault>
+        requires { IsReady self.old.stage self.old }
+        ensures steps { Steps result (byte_step self.old.stage (state_of self.old) at byte) (state_of self.new) }
+        ensures ready { OnOk result (IsReady self.old.stage self.new) }
     {
         if is_blank(byte) {
             Ok(())
         } else if is_cross(byte) {
-            self.take_cross(stage, at)
+            self.take_cross(at)
         } else if byte == b'.' {
-            self.take_dot(stage, at)
+            self.take_dot(at)
         } else if byte == b',' {
-            self.take_comma(stage, at)
+            self.take_comma(at)
         } else {
             match bell_of(byte) {
-                Some(place) => self.take_place(stage, at, place),
+                Some(place) => self.take_place(at, place),
                 None => Err(NotationFault::Symbol(at)),
             }
         }
     }
 
-    #[tactic(auto, unfolding(crate::specs::Reading::cross_step))]
-    fn take_cross(&mut self, stage: Stage, at: u64) -> Result<(), NotationFault>
-        requires { IsReady stage (state_of self.old) }
-        ensures steps { Steps result (cross_step stage (state_of self.old) at) (state_of self.new) }
-        ensures ready { OnOk result (IsReady stage (state_of self.new)) }
+    #[tactic(auto, unfolding(crate::specs::Reading::cross_step), using(crate::proofs::Taken::cross_taken, crate::proofs::Taken::no_cross))]
+    fn take_cross(&mut self, at: u64) -> Result<(), NotationFault>
+        requires { IsReady self.old.stage self.old }
+        ensures steps { Steps result (cross_step self.old.stage (state_of self.old) at) (state_of self.new) }
+        ensures ready { OnOk result (IsReady self.old.stage self.new) }
     {
-        if stage.number() % 2 == 1 {
+        let Some(cross) = self.cross else {
             return Err(NotationFault::CrossOnOdd(at));
-        }
-        self.close(stage)?;
-        self.block.push(cross_of(stage))?;
+        };
+        self.close()?;
+        self.block.add(cross)?;
         self.last = Last::Cross;
         Ok(())
     }
 
     #[tactic(auto, unfolding(crate::specs::Reading::place_step))]
-    fn take_place(&mut self, stage: Stage, at: u64, place: u8) -> Result<(), NotationFault>
-        requires ready { IsReady stage (state_of self.old) }
+    fn take_place(&mut self, at: u64, place: u8) -> Result<(), NotationFault>
+        requires ready { IsReady self.old.stage self.old }
         requires from { 1 ≤ place }
-        ensures steps { Steps result (place_step stage (state_of self.old) at place) (state_of self.new) }
-        ensures ready { OnOk result (IsReady stage (state_of self.new)) }
+        ensures steps { Steps result (place_step self.old.stage (state_of self.old) at place) (state_of self.new) }
+        ensures ready { OnOk result (IsReady self.old.stage self.new) }
     {
-        if place > stage.number() {
+        if place > self.stage.number() {
             return Err(NotationFault::Above(at));
         }
         match self.last {
-            Last::Group => self.name_next(stage, at, place),
+            Last::Group => self.name_next(at, place),
             Last::Nothing | Last::Dot(_) | Last::Cross => {
                 self.name_first(place)?;
                 Ok(())
@@ -115,7 +123,11 @@ impl Reader {
 
     // The first place of a group.
     fn name_first(&mut self, place: u8) -> Result<(), AllocError>
-        ensures { OnOk result (state_of self.new ≡ first_named (state_of self.old) place) }
+        requires ready { IsReady self.old.stage self.old }
+        requires from { 1 ≤ place }
+        requires low { place ≤ self.old.stage }
+        ensures named { OnOk result (state_of self.new ≡ first_named (state_of self.old) place) }
+        ensures ready { OnOk result (IsReady self.old.stage self.new) }
     {
         self.named.clear();
         self.named.push(place)?;
@@ -125,13 +137,12 @@ impl Reader {
 
     // One more place of the open group.
     #[tactic(auto, using(crate::proofs::Named::some_named, crate::proofs::Named::named_more, crate::proofs::Named::next_from, crate::proofs::Named::first_kept))]
-    fn name_next(&mut self, stage: Stage, at: u64, place: u8) -> Result<(), NotationFault>
-        requires rules { IsNamed stage self.old.named.items }
-        requires from { 1 ≤ get_or self.old.named.items 0 0 }
-        requires low { place ≤ stage }
+    fn name_next(&mut self, at: u64, place: u8) -> Result<(), NotationFault>
+        requires ready { IsReady self.old.stage self.old }
+        requires open { self.old.last ≡ last.Group }
+        requires low { place ≤ self.old.stage }
         ensures steps { Steps result (more_named (state_of self.old) at place) (state_of self.new) }
-        ensures rules { OnOk result (IsNamed stage self.new.named.items) }
-        ensures from { OnOk result (1 ≤ get_or self.new.named.items 0 0) }
+        ensures ready { OnOk result (IsReady self.old.stage self.new) }
     {
         let before = last_of(&self.named);
         if place <= before {
@@ -145,24 +156,24 @@ impl Reader {
     }
 
     #[tactic(auto, unfolding(crate::specs::Reading::dot_step))]
-    fn take_dot(&mut self, stage: Stage, at: u64) -> Result<(), NotationFault>
-        requires { IsReady stage (state_of self.old) }
-        ensures steps { Steps result (dot_step stage (state_of self.old) at) (state_of self.new) }
-        ensures ready { OnOk result (IsReady stage (state_of self.new)) }
+    fn take_dot(&mut self, at: u64) -> Result<(), NotationFault>
+        requires { IsReady self.old.stage self.old }
+        ensures steps { Steps result (dot_step self.old.stage (state_of self.old) at) (state_of self.new) }
+        ensures ready { OnOk result (IsReady self.old.stage self.new) }
     {
         if matches!(self.last, Last::Nothing | Last::Dot(_)) {
             return Err(NotationFault::Dot(at));
         }
-        self.close(stage)?;
+        self.close()?;
         self.last = Last::Dot(at);
         Ok(())
     }
 
-    #[tactic(auto, unfolding(crate::specs::Reading::comma_step, crate::specs::Reading::closed))]
-    fn take_comma(&mut self, stage: Stage, at: u64) -> Result<(), NotationFault>
-        requires { IsReady stage (state_of self.old) }
-        ensures steps { Steps result (comma_step stage (state_of self.old) at) (state_of self.new) }
-        ensures ready { OnOk result (IsReady stage (state_of self.new)) }
+    #[tactic(auto, unfolding(crate::specs::Reading::comma_step))]
+    fn take_comma(&mut self, at: u64) -> Result<(), NotationFault>
+        requires { IsReady self.old.stage self.old }
+        ensures steps { Steps result (comma_step self.old.stage (state_of self.old) at) (state_of self.new) }
+        ensures ready { OnOk result (IsReady self.old.stage self.new) }
     {
         if let Last::Dot(dot) = self.last {
             return Err(NotationFault::Dot(dot));
@@ -173,8 +184,8 @@ impl Reader {
         if let Last::Nothing = self.last {
             return Err(NotationFault::EmptyBlock(at));
         }
-        self.close(stage)?;
-        append_mirrored(&mut self.done, &self.block)?;
+        self.close()?;
+        self.done.add_mirrored(self.block.changes())?;
         self.block.clear();
         self.comma_seen = true;
         self.last = Last::Nothing;
@@ -183,43 +194,63 @@ impl Reader {
 
     // Ends the open group, if there is one, and adds its change to the block.
     #[tactic(auto, unfolding(crate::specs::Reading::closed))]
-    fn close(&mut self, stage: Stage) -> Result<(), AllocError>
-        requires { IsReady stage (state_of self.old) }
-        ensures { OnOk result (state_of self.new ≡ shut stage (state_of self.old)) }
+    fn close(&mut self) -> Result<(), AllocError>
+        requires { IsReady self.old.stage self.old }
+        ensures closed { OnOk result (IsShut self.old.stage (state_of self.old) (state_of self.new)) }
+        ensures stays { OnOk result ((self.new.stage ≡ self.old.stage) × (self.new.cross ≡ self.old.cross)) }
     {
-        if let Last::Group = self.last {
-            let change = group_change(stage, &mut self.named)?;
-            self.block.push(change)?;
+        match self.last {
+            Last::Group => self.add_group(),
+            Last::Nothing | Last::Dot(_) | Last::Cross => {
+                self.named.clear();
+                Ok(())
+            }
         }
+    }
+
+    // Adds the change of the open group to the block.
+    fn add_group(&mut self) -> Result<(), AllocError>
+        requires rules { IsNamed self.old.stage self.old.named.items }
+        requires from { 1 ≤ get_or self.old.named.items 0 0 }
+        ensures { OnOk result (IsAdded (change_of self.old.stage (group self.old.named.items)) self.old self.new) }
+    {
+        let change = group_change(self.stage, &mut self.named)?;
+        self.block.add(change)?;
         self.named.clear();
         Ok(())
     }
 
-    // The changes of the whole, where the text ends at this place.
-    #[tactic(auto, unfolding(crate::specs::Reading::end_step, crate::specs::Reading::closed))]
-    fn finish(mut self, stage: Stage, at: u64) -> Result<Vec<Change>, NotationFault>
-        requires { IsReady stage (state_of self) }
-        ensures { Gives (λ v. v.items) result (end_step stage (state_of self) at) }
+    // The changes of the whole, as far as they are kept.
+    #[tactic(auto, unfolding(crate::specs::Reading::closed), using(crate::proofs::Keeping::both_mirrored))]
+    fn into_whole(mut self) -> Result<Vec<Change>, AllocError>
+        requires { IsReady self.stage self }
+        ensures { IfOk result (λ changes. changes.items ≡ kept (whole self.stage (state_of self))) }
+    {
+        self.close()?;
+        if self.comma_seen {
+            self.done.add_mirrored(self.block.changes())?;
+            Ok(self.done.into_changes())
+        } else {
+            Ok(self.block.into_changes())
+        }
+    }
+
+    // The changes of a text that ends at this place, if they are not too many.
+    #[tactic(auto, unfolding(crate::specs::Reading::end_step), using(crate::proofs::Keeping::few_limited, crate::proofs::Keeping::many_limited))]
+    fn finish(self, at: u64) -> Result<Vec<Change>, NotationFault>
+        requires { IsReady self.stage self }
+        ensures { Gives (λ v. v.items) result (limited at (end_step self.stage (state_of self) at)) }
     {
         match self.last {
             Last::Dot(dot) => return Err(NotationFault::Dot(dot)),
             Last::Nothing => return Err(NotationFault::EmptyBlock(at)),
             Last::Cross | Last::Group => {}
         }
-        self.close(stage)?;
-        let Reader {
-            comma_seen,
-            mut done,
-            block,
-            named: _,
-            last: _,
-        } = self;
-        if comma_seen {
-            append_mirrored(&mut done, &block)?;
-            Ok(done)
-        } else {
-            Ok(block)
+        let changes = self.into_whole()?;
+        if changes.len() > MOST {
+            return Err(NotationFault::Long(at));
         }
+        Ok(changes)
     }
 }
 
@@ -236,13 +267,16 @@ fn is_cross(byte: u8) -> bool
     byte == b'x' || byte == b'X' || byte == b'-'
 }
 
-// The change without places.
-fn cross_of(stage: Stage) -> Change
-    requires { stage % 2 ≡ 0 }
-    ensures { result ≡ record { stage = stage; made = [] } }
+// The change without places, where the stage has it.
+#[tactic(auto, using(crate::proofs::Chains::cross_is_change))]
+fn cross_on(stage: Stage) -> Option<Change>
+    ensures { result ≡ cross_on stage }
 {
+    if stage.number() % 2 == 1 {
+        return None;
+    }
     match Change::from_places(stage, &[]) {
-        Ok(change) => change,
+        Ok(cross) => Some(cross),
         Err(_) => unreachable!(),
     }
 }
@@ -276,9 +310,10 @@ fn add_first(named: &mut Vec<u8>) -> Result<(), AllocError>
 }
 
 // The last of the named places.
-fn last_of(named: &Vec<u8>) -> u8
-    requires { 1 ≤ length named.now.items }
-    ensures { result ≡ last_named named.now.items }
+#[tactic(auto, using(crate::proofs::Named::last_at))]
+fn last_of(named: &[u8]) -> u8
+    requires { 1 ≤ length named.now }
+    ensures { result ≡ last_named named.now }
 {
     named[named.len() - 1]
 }
@@ -295,29 +330,15 @@ fn add_last(stage: Stage, named: &mut Vec<u8>) -> Result<(), AllocError>
     Ok(())
 }
 
-// Appends the changes to the last one and back to the first.
-fn append_mirrored(done: &mut Vec<Change>, block: &[Change]) -> Result<(), AllocError>
-    ensures { OnOk result (done.new.items ≡ done.old.items ++ mirrored block.now) }
-{
-    done.extend_from_slice(block)?;
-    for back in 1..block.len() {
-        done.push(block[block.len() - 1 - back])?;
-    }
-    Ok(())
-}
-
+// What the bytes are read as.
 fn read_bytes(alloc: Global, stage: Stage, bytes: &[u8]) -> Result<Vec<Change>, NotationFault>
     ensures { Gives (λ v. v.items) result (read_all stage bytes.now) }
 {
-    let mut reader = Reader::new(alloc);
+    let mut reader = Reader::new(alloc, stage);
     for (at, byte) in bytes.iter().enumerate() {
-        reader.take(stage, at as u64, *byte)?;
+        reader.take(at as u64, *byte)?;
     }
-    let changes = reader.finish(stage, bytes.len() as u64)?;
-    if changes.len() > MOST {
-        return Err(NotationFault::Long(bytes.len() as u64));
-    }
-    Ok(changes)
+    reader.finish(bytes.len() as u64)
 }
 
 /// The changes that a text of place notation spells on a stage, 1 to 128 of them, in the order in which
@@ -328,8 +349,10 @@ fn read_bytes(alloc: Global, stage: Stage, bytes: &[u8]) -> Result<Vec<Change>, 
 pub fn read_notation(alloc: Global, stage: Stage, text: &str) -> Result<Vec<Change>, NotationFault>
     ensures spelled { IfOk result (λ changes. Spells stage text.now changes.items) }
     ensures refused { IfErr result (λ fault. fault ≢ NotationFault.NoMemory → FirstFault stage text.now fault) }
-    ensures accepts { (changes : List Places) → Spells stage text.now changes → MatchResult result (λ read. read.items ≡ changes) (λ fault. fault ≡ NotationFault.NoMemory) }
-    ensures refuses { (why : NotationFault) → FirstFault stage text.now why → MatchResult result (λ _. ⊥) (λ fault. (fault ≡ why) ⊎ (fault ≡ NotationFault.NoMemory)) }
+    ensures accepts { (changes : List Places) → Spells stage text.now changes →
+        MatchResult result (λ read. read.items ≡ changes) (λ fault. fault ≡ NotationFault.NoMemory) }
+    ensures refuses { (why : NotationFault) → FirstFault stage text.now why →
+        MatchResult result (λ _. ⊥) (λ fault. (fault ≡ why) ⊎ (fault ≡ NotationFault.NoMemory)) }
 {
     a_text_spells_one_list();
     a_text_has_one_first_fault();

@@ -155,13 +155,26 @@ fn number_of(alloc: Global, crosses_before: u32, rest: &str) -> Result<usize, No
     Ok(changes.len())
 }
 
+// With a comma each block is mirrored: 64 and 1 changes make 127 and 1, 65 and 1 make 129 and 1.
+const LENGTHS: [(u32, &str, Result<usize, NotationFault>); 10] = [
+    (128, "", Ok(128)),
+    (129, "", Err(NotationFault::Long(129))),
+    (130, " ", Err(NotationFault::Long(131))),
+    (64, ",x", Ok(128)),
+    (65, ",x", Err(NotationFault::Long(67))),
+    (64, ",x14", Err(NotationFault::Long(68))),
+    (2, ",x14x14", Ok(10)),
+    (5000, "", Err(NotationFault::Long(5000))),
+    (5000, ",14", Err(NotationFault::Long(5003))),
+    (5000, "5", Err(NotationFault::Above(5000))),
+];
+
 #[test]
 fn at_most_128_changes(rt: HostRuntime) {
-    assert!(rt; number_of(rt.alloc(), 128, "") == Ok(128));
-    assert!(rt; number_of(rt.alloc(), 129, "") == Err(NotationFault::Long(129)));
-    assert!(rt; number_of(rt.alloc(), 64, ",x") == Ok(128));
-    assert!(rt; number_of(rt.alloc(), 65, ",x") == Err(NotationFault::Long(67)));
-    assert!(rt; number_of(rt.alloc(), 64, ",x14") == Err(NotationFault::Long(68)));
+    for (number, rest, want) in &LENGTHS {
+        let found = number_of(rt.alloc(), *number, *rest);
+        assert!(rt; found == *want, "at {number} crosses and {rest}");
+    }
 }
 
 // The text that is written for what a text spells.

@@ -39,7 +39,8 @@ fn push_change(
     requires last { last ≡ change.now.stage }
     requires few { last ≤ 16 }
     ensures some { IfOk result (λ some. some ≡ has_places change.now.made) }
-    ensures text { OnOk result (string_bytes text.new ≡ (string_bytes text.old ++ dot_if (after_places && has_places change.now.made)) ++ places_text change.now.made) }
+    ensures text { OnOk result (string_bytes text.new ≡
+        (string_bytes text.old ++ dot_if (after_places && has_places change.now.made)) ++ places_text change.now.made) }
     ensures is_change { OnOk result (IsChange change.now) }
 {
     if !makes_some(change) {

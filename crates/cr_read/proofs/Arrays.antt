@@ -5,8 +5,7 @@ use Rattle.toml.specs.Data.{Data, string, integer, float, boolean, datetime, arr
 use Rattle.toml.specs.View.{items_of, view}
 use Rattle.toml.specs.declared.value.Value.{Value}
 use Rattle.cr_model.specs.Keys.{Key, listed, are_tables, items_faults, array_faults, text_at, members_in, values_in, written_letters}
-use Rattle.cr_read.specs.declared.key_fault.Part.{Part}
-use Rattle.cr_read.specs.FirstKeys.{letters_in, keys_of}
+use Rattle.cr_read.specs.FirstKeys.{letters_in}
 
 pub listed_back : (values : List Data) → listed (items_of values) ≡ values
 listed_back [] = refl
@@ -45,8 +44,8 @@ passed true name is = refl
 passed false name is = absurd (cc)
 
 -- an array of the right number of tables has the faults of its items
-pub items_checked : (name : List ℕ) (least most : ℕ) (kind : Part) (letters written : List (List ℕ)) (found : Option Data) (value : Data) (values : List Data) (right : Bool)
-    → letters ≡ written → Some value ≡ found → Some values ≡ option_map listed (as_array value) → cond right [] (name ∷ []) ≡ [] → right ≡ are_tables least most values
-    → items_faults name (keys_of kind letters) 0 values ≡ array_faults name least most (keys_of kind written) found
-items_checked name least most kind letters written found value values right same there is fine tables =
-    rw (← there, same) (sym (array_of name least most (keys_of kind written) value values (sym is) ∙ rw (sym tables ∙ passed right name fine)))
+pub items_checked : (name : List ℕ) (least most : ℕ) (keys : List Key) (found : Option Data) (value : Data) (values : List Data) (right : Bool)
+    → Some value ≡ found → Some values ≡ option_map listed (as_array value) → cond right [] (name ∷ []) ≡ [] → right ≡ are_tables least most values
+    → items_faults name keys 0 values ≡ array_faults name least most keys found
+items_checked name least most keys found value values right there is fine tables =
+    rw (← there) (sym (array_of name least most keys value values (sym is) ∙ rw (sym tables ∙ passed right name fine)))

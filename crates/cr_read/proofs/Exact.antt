@@ -4,8 +4,10 @@ use Rattle.std.specs.Prelude.{MatchResult}
 use Rattle.cr_model.specs.Problems.{ProblemParts}
 use Rattle.cr_model.specs.declared.file_fault.ProblemFault.{ProblemFault}
 use Rattle.cr_model.specs.declared.file_fault.ProblemFault.TheVariants as fault
-use Rattle.cr_model.specs.ProblemFiles.{ProblemFile, FirstProblemFault}
-use Rattle.cr_read.specs.Reading.{NotProblem}
+use Rattle.cr_model.specs.Sound.{IsSound}
+use Rattle.cr_model.specs.Files.{FileParts, IsFile}
+use Rattle.cr_model.specs.ProblemFiles.{Makes, ProblemFile, FirstProblemFault}
+use Rattle.cr_read.specs.Reading.{Refused, NotProblem}
 use Rattle.cr_read.proofs.OneAnswer.{Verdict}
 
 not_problem : (bytes : List ℕ) (why : ProblemFault) → NotProblem bytes why → (why ≡ fault.NoMemory) ⊎ FirstProblemFault bytes why
@@ -14,6 +16,17 @@ not_problem bytes _ is = inr is
 
 err_is : (why other : ProblemFault) → why ≡ other → ◌≡◌ {A = Verdict} (Err why) (Err other)
 err_is why other is = ap (λ w. Err w) is
+
+-- what is right of a file's values is right of its bytes
+refused : (bytes : List ℕ) (file : FileParts) (why : ProblemFault) → IsFile bytes file → Refused file why → NotProblem bytes why
+refused bytes file fault.NoMemory is h = tt
+refused bytes file fault.NotToml is h = absurd h
+refused bytes file (fault.Key path) is h = absurd h
+refused bytes file _ is h = (file, is, h)
+
+pub answered : (bytes : List ℕ) (file : FileParts) (r : Verdict) → IsFile bytes file → MatchResult r (λ p. Makes file p × IsSound p) (Refused file) → MatchResult r (ProblemFile bytes) (NotProblem bytes)
+answered bytes file (Ok p) is h = record { file = file; is_file = is; makes = h.0; sound = h.1 }
+answered bytes file (Err why) is h = refused bytes file why is h
 
 module _ (bytes : List ℕ)
     (one_problem : (one other : ProblemParts) → ProblemFile bytes one → ProblemFile bytes other → one ≡ other)

@@ -8,28 +8,33 @@ use Rattle.std.proofs.lemmas.Option.{same_Some}
 use Rattle.std.proofs.lemmas.List.{length-map, get_or-map}
 use Rattle.std.proofs.lemmas.List.Elements.{All-append, All-take, All-cons, All-get_or}
 use Rattle.std.proofs.lemmas.Slice.Zip.{AllZip-long}
-use Rattle.cr_row.specs.Rows.{Places}
+use Rattle.cr_row.specs.Rows.{Places, IsChange}
 use Rattle.cr_model.specs.declared.lead.Step.{Step}
 use Rattle.cr_model.specs.declared.fault.PartFault.{PartFault}
 use Rattle.cr_model.specs.declared.fault.PartFault.TheVariants as part
 use Rattle.cr_model.specs.declared.file_fault.ProblemFault.{ProblemFault}
 use Rattle.cr_model.specs.declared.file_fault.ProblemFault.TheVariants as fault
 use Rattle.cr_model.specs.Problems.{LeadParts, ProblemParts}
-use Rattle.cr_model.specs.Faults.{LeadsWrongAt, IsPartFault}
+use Rattle.cr_model.specs.Checks.{IsFirstFailure}
+use Rattle.cr_model.specs.Faults.{checks, IsPartFault}
+use Rattle.cr_model.specs.Callings.{step_at, changes_at}
+use Rattle.cr_model.proofs.OneFault.{exact_letters, exact_leads}
 use Rattle.cr_model.specs.Notation.{Spells}
-use Rattle.cr_model.specs.Sound.{plain, step_at, changes_at, LettersAreRight, LeadIsRight, LeadsAreRight, StepIsRight, IsNextStep}
+use Rattle.cr_model.specs.Right.{plain, AreOfStage, LettersAreRight, LeadIsRight, LeadsAreRight, StepIsRight, IsNextStep}
 use Rattle.cr_model.specs.Files.{FileParts}
-use Rattle.cr_model.specs.ProblemFiles.{Tunes, letters_of, method_texts, call_texts, mark_at, is_for, tune_at, over_at, called_tune, call_with, lead_from, byte_of, called_lead, leads_of_method, leads_of, LettersPass, CallsSpell, CallsPass, IsFileFault}
-use Rattle.cr_read.specs.Reading.{IsTuned, Refused, CallsAreRight, IsCallFault, IsLater}
+use Rattle.cr_model.specs.ProblemFiles.{Tunes, letters_of, method_texts, call_texts, mark_at, is_for, tune_at, over_at, called_tune, call_with, lead_from, byte_of, called_lead, leads_of_method, leads_of, LettersPass, CallsSpell, CallsPass, Makes, IsFileFault}
+use Rattle.cr_read.specs.Reading.{IsTuned, Refused, IsLater, file_fault}
 use Rattle.cr_read.proofs.CallFacts.{called_length}
-use Rattle.cr_read.proofs.Staged.{IsOf, spelled_staged}
+use Rattle.cr_notation.proofs.Spelled.{spelled_changes}
 use Rattle.cr_read.proofs.StepOrder.{Chained, GoOn, last_step, chained_append, chained_at, each_of, IsMarked, marked_each, marks_in_order, methods_in_order, methods_led}
+
+-- a change of the stage
+abbrev IsOf : ℕ → Places → Type 0
+IsOf n change = (change.stage ≡ n) × IsChange change
 
 -- what is right of a lead by itself
 pub record IsGood (n methods : ℕ) (lead : LeadParts) : Type 0 where
-  pub some : 1 ≤ length lead.changes
-  pub few : length lead.changes ≤ 128
-  pub staged : All (IsOf n) lead.changes
+  pub changes : AreOfStage n lead.changes
   pub from : 97 ≤ lead.step.mark
   pub to : lead.step.mark ≤ 122
   pub known : lead.step.method < methods
@@ -72,7 +77,12 @@ module _ (file : FileParts) (n : ℕ) (tunes : Tunes) (pass : CallsPass file n t
   plain_good : (m : ℕ) → m < length file.methods → Good (lead_from m plain (tune_at tunes.methods m))
   plain_good m low =
       let spells = method_spells m low in
-      record { some = spells.at_least; few = spells.at_most; staged = spelled_staged n _ (tune_at tunes.methods m) spells; from = omega arith; to = omega arith; known = low }
+      record {
+        changes = record { some = spells.at_least; few = spells.at_most; each = spelled_changes n _ (tune_at tunes.methods m) spells };
+        from = omega arith;
+        to = omega arith;
+        known = low;
+      }
 
   called_good : (m mark c : ℕ) → m < length file.methods → c < length file.calls → mark_at file c ≡ mark → is_for file c m ≡ true → Good (lead_from m mark (called_tune file tunes c m))
   called_good m mark c low within is for_it =
@@ -85,9 +95,11 @@ module _ (file : FileParts) (n : ℕ) (tunes : Tunes) (pass : CallsPass file n t
       let from : 97 ≤ mark_at file c = marked.from in
       let to : mark_at file c ≤ 122 = marked.to in
       record {
-        some = omega arith;
-        few = fits.short;
-        staged = All-append (IsOf n) _ (tune_at tunes.calls c) (All-take (IsOf n) _ (tune_at tunes.methods m) (spelled_staged n _ (tune_at tunes.methods m) rung)) (spelled_staged n _ (tune_at tunes.calls c) call);
+        changes = record {
+          some = omega arith;
+          few = fits.short;
+          each = All-append (IsOf n) _ (tune_at tunes.calls c) (All-take (IsOf n) _ (tune_at tunes.methods m) (spelled_changes n _ (tune_at tunes.methods m) rung)) (spelled_changes n _ (tune_at tunes.calls c) call);
+        };
         from = omega arith;
         to = omega arith;
         known = low;
@@ -152,9 +164,7 @@ module _ (file : FileParts) (n : ℕ) (tunes : Tunes) (pass : CallsPass file n t
       let step : step_at (leads_of file tunes) i ≡ (get_or (leads_of file tunes) i none).step = get_or-map (λ lead. lead.step) (leads_of file tunes) i none (record { method = 0; mark = 0 }) low in
       let changes : changes_at (leads_of file tunes) i ≡ (get_or (leads_of file tunes) i none).changes = get_or-map (λ lead. lead.changes) (leads_of file tunes) i none [] low in
       record {
-        some = subst (λ (cs : List Places). 1 ≤ length cs) (sym changes) good.some;
-        few = subst (λ (cs : List Places). length cs ≤ 128) (sym changes) good.few;
-        staged = subst (λ (cs : List Places). All (IsOf n) cs) (sym changes) good.staged;
+        changes = subst (λ (cs : List Places). AreOfStage n cs) (sym changes) good.changes;
         from = subst (λ (s : Step). 97 ≤ s.mark) (sym step) good.from;
         to = subst (λ (s : Step). s.mark ≤ 122) (sym step) good.to;
         known = subst (λ (s : Step). s.method < length (letters_of file)) (sym step) (rw (length-map file.methods (λ method. byte_of method.letter)) good.known);
@@ -192,28 +202,35 @@ few_methods file n pass = elim (cases_lt 8 (length file.methods)) [
   | inr few ↦ omega arith
 ]
 
--- what the checks of the calls say in all
-pub calls_pass : (file : FileParts) (n : ℕ) (tunes : Tunes) → CallsSpell file n tunes → CallsAreRight file tunes → CallsPass file n tunes
-calls_pass file n tunes spell right = record { before = record { before = record { before = record { before = spell; overs = right.overs }; marks = right.marks }; fits = right.lengths }; apart = right.apart }
-
-pub call_fault : (file : FileParts) (n : ℕ) (tunes : Tunes) (why : ProblemFault) → CallsSpell file n tunes → IsCallFault file tunes why → Refused file why
-call_fault file n tunes (fault.Over call) spell is = (n, tunes, spell, is)
-call_fault file n tunes (fault.Mark call) spell is = (n, tunes, record { before = spell; overs = is.0 }, is.1)
-call_fault file n tunes (fault.CallLength call method) spell is = (n, tunes, record { before = record { before = spell; overs = is.0 }; marks = is.1 }, is.2, is.3)
-call_fault file n tunes (fault.Clash first second) spell is = (n, tunes, record { before = record { before = record { before = spell; overs = is.0 }; marks = is.1 }; fits = is.2 }, is.3, is.4)
-call_fault file n tunes _ spell is = absurd is
-
-leads_not : (p : ProblemParts) (i : ℕ) → LettersAreRight p.letters → LeadsAreRight p.stage (length p.letters) p.leads → LeadsWrongAt p.stage (length p.letters) p.leads i → ⊥
-leads_not p i letters leads (inl wrong) = wrong.wrong (leads.each i wrong.within)
-leads_not p i letters leads (inr unled) = let some = unled.2 in let found = leads.led some.0 some.1 in some.2 found.0 found.1 found.2
-
--- a fault of parts whose letters and leads are right is a later one
-pub later_fault : (p : ProblemParts) (why : PartFault) → LettersAreRight p.letters → LeadsAreRight p.stage (length p.letters) p.leads → IsPartFault p why → IsLater why
-later_fault p (part.Letters i) letters leads (inl none) = let h : 0 < length p.letters = letters.some in let e : length p.letters ≡ 0 = none.0 in absurd (omega arith)
-later_fault p (part.Letters i) letters leads (inr wrong) = absurd (wrong.wrong (letters.each i wrong.within))
-later_fault p (part.Leads i) letters leads is = leads_not p i letters leads is.1
-later_fault p _ letters leads is = tt
-
 pub refused_from : (file : FileParts) (why : ProblemFault) → IsFileFault file why → Refused file why
 refused_from file fault.NoMemory is = tt
 refused_from file _ is = is
+
+-- a fault of parts whose letters and leads are right is a later one
+pub later_fault : (p : ProblemParts) (why : PartFault) → LettersAreRight p.letters → LeadsAreRight p.stage (length p.letters) p.leads → IsPartFault p why → IsLater why
+later_fault p why letters leads is = by is.first
+  where
+    by : IsFirstFailure (checks p) why → IsLater why
+    by (inl first) = absurd ((exact_letters p).apart why first letters)
+    by (inr (_, inl second)) = absurd ((exact_leads p).apart why second leads)
+    by (inr (_, inr (_, inl steps))) = subst IsLater (sym steps.0) tt
+    by (inr (_, inr (_, inr (_, inl range)))) = subst IsLater (sym range.0) tt
+    by (inr (_, inr (_, inr (_, inr (_, inl depth))))) = subst IsLater (sym depth.0) tt
+    by (inr (_, inr (_, inr (_, inr (_, inr (_, inl parts)))))) = subst IsLater (sym parts.0) tt
+    by (inr (_, inr (_, inr (_, inr (_, inr (_, inr (_, inl marks))))))) = subst IsLater (sym marks.1) tt
+    by (inr (_, inr (_, inr (_, inr (_, inr (_, inr (_, inr (_, inl methods)))))))) = subst IsLater (sym methods.1) tt
+    by (inr (_, inr (_, inr (_, inr (_, inr (_, inr (_, inr (_, inr (_, inl patterns))))))))) = subst IsLater (sym patterns.1) tt
+    by (inr (_, inr (_, inr (_, inr (_, inr (_, inr (_, inr (_, inr (_, inr (_, inl limits)))))))))) = subst IsLater (sym limits.0) tt
+    by (inr (_, inr (_, inr (_, inr (_, inr (_, inr (_, inr (_, inr (_, inr (_, inr (_, none))))))))))) = absurd none
+
+-- a fault of the parts that values make is one of the values
+pub fault_made : (file : FileParts) (p : ProblemParts) (why : PartFault) → Makes file p → IsPartFault p why → IsLater why → IsFileFault file (file_fault why)
+fault_made file p (part.Letters i) makes is later = absurd later
+fault_made file p (part.Leads i) makes is later = absurd later
+fault_made file p (part.Steps number) makes is later = (p, makes, is)
+fault_made file p (part.Range low high) makes is later = (p, makes, is)
+fault_made file p (part.Deep depth) makes is later = (p, makes, is)
+fault_made file p (part.Parts parts) makes is later = (p, makes, is)
+fault_made file p (part.Count at) makes is later = (p, makes, is)
+fault_made file p (part.Pattern i) makes is later = (p, makes, is)
+fault_made file p part.Com makes is later = (p, makes, is)

@@ -1,4 +1,4 @@
-pub mod AllKeys
+pub mod KeyTables
 pub mod Arrays
 pub mod CallFacts
 pub mod Cells
@@ -8,7 +8,6 @@ pub mod MethodsThere
 pub mod OneAnswer
 pub mod Ranges
 pub mod Spelled
-pub mod Staged
 pub mod StepOrder
 pub mod UnknownKeys
 mod OneFileKnown

@@ -1,15 +1,13 @@
 -- A file with no key at fault has a method.
 use Rattle.std.proofs.Common.{◌≡◌, ℕ, ◌≤◌, Bool, true, false, cond, ◌&&◌, List, [], ◌∷◌, ◌++◌, length, codes, Option, Some, None, refl, sym, subst, ◌∙◌, arith}
-use Rattle.std.specs.Prelude.{nat_le}
+use Rattle.std.specs.Prelude.{nat_le, flat_map}
 use Rattle.std.specs.List.{list_all}
 use Rattle.std.proofs.lemmas.Bool.{and_parts}
 use Rattle.std.proofs.lemmas.Bool.Decides.{nat_tests}
 use Rattle.std.proofs.lemmas.List.{length-map}
 use Rattle.toml.specs.Data.{Data, string, integer, float, boolean, datetime, array, table, Members, get_member}
-use Rattle.cr_model.specs.Keys.{Key, listed, is_table, are_tables, method_keys, values_in, array_faults, key_faults, unknown_keys, top_names, key_fault, stage_key}
+use Rattle.cr_model.specs.Keys.{Key, listed, is_table, are_tables, method_keys, values_in, array_faults, parts, part_faults, written_letters, key_faults, key_fault, stage_key}
 use Rattle.cr_model.specs.Files.{FileParts, IsFile, method_in, file_of}
-use Rattle.cr_read.specs.FirstKeys.{steps_faults, asked_faults}
-use Rattle.cr_read.proofs.AllKeys.{all_keys}
 
 none_left : {A : Type 0} (xs ys : List A) → xs ++ ys ≡ [] → xs ≡ []
 none_left [] ys is = refl
@@ -41,10 +39,12 @@ some_values name keys (Some (datetime s)) is = absurd (cc)
 some_values name keys (Some (table s)) is = absurd (cc)
 
 pub methods_there : (top : Members) → key_faults top ≡ [] → 1 ≤ length (file_of top).methods
+unfolding key_faults
 methods_there top is =
-    let steps = none_left (steps_faults top) (asked_faults top ++ unknown_keys [] top_names top) (sym (all_keys top) ∙ is) in
-    let arrays = none_right (key_fault [] top stage_key) _ steps in
-    let methods = none_left (array_faults (codes "method") 1 8 method_keys (get_member (codes "method") top)) _ arrays in
+    let letters = written_letters top in
+    let behind = none_right (key_fault [] top stage_key) _ is in
+    let all = none_left (flat_map (part_faults top) (parts letters)) _ behind in
+    let methods = none_left (array_faults (codes "method") 1 8 method_keys (get_member (codes "method") top)) _ all in
     rw (length-map (values_in (get_member (codes "method") top)) method_in) (some_values (codes "method") method_keys (get_member (codes "method") top) methods)
 
 pub some_methods : (bytes : List ℕ) (file : FileParts) → IsFile bytes file → 1 ≤ length file.methods

@@ -7,22 +7,25 @@ use Rattle.std.proofs.lemmas.Bool.{cases_lt}
 use Rattle.std.proofs.lemmas.Int.{ints}
 use Rattle.toml.specs.Data.{Members}
 use Rattle.cr_row.specs.Rows.{Places}
-use Rattle.cr_model.specs.declared.fault.CountAt.TheVariants as counted
+use Rattle.cr_model.specs.declared.fault.PartFault.{PartFault}
 use Rattle.cr_model.specs.declared.fault.PartFault.TheVariants as part
 use Rattle.cr_model.specs.declared.notation.NotationFault.{NotationFault}
 use Rattle.cr_model.specs.declared.file_fault.Whose.TheVariants as whose
 use Rattle.cr_model.specs.declared.file_fault.ProblemFault.{ProblemFault}
 use Rattle.cr_model.specs.declared.file_fault.ProblemFault.TheVariants as fault
 use Rattle.cr_model.specs.Problems.{ProblemParts}
-use Rattle.cr_model.specs.Callings.{shortest}
-use Rattle.cr_model.specs.Queries.{cap}
-use Rattle.cr_model.specs.Sound.{LetterIsRight, LimitsAreRight, CountIsRight, count_at, MethodCountIsRight, method_count_at, PatternIsRight, pattern_at, ComIsRight, IsSound}
-use Rattle.cr_model.specs.Faults.{IsFirstWrong, IsPartFault, StepsPass, RangePasses, DepthPasses, PartsPass, CountsPass, MethodCountsPass, PatternsPass}
+use Rattle.cr_model.specs.Checks.{IsFirstWrong}
+use Rattle.cr_model.specs.Right.{LetterIsRight}
+use Rattle.cr_model.specs.Sound.{IsSound}
+use Rattle.cr_model.specs.Faults.{IsPartFault}
+use Rattle.cr_model.proofs.FirstFailure.{one_first}
+use Rattle.cr_model.proofs.OneFault.{sound_has_no_fault, one_part_fault}
 use Rattle.cr_model.specs.Notation.{Spells}
 use Rattle.cr_model.specs.NotationFaults.{FirstFault}
 use Rattle.cr_model.specs.Keys.{key_faults}
 use Rattle.cr_model.specs.Files.{FileParts, file_of, Reads, IsFile}
 use Rattle.cr_model.specs.ProblemFiles.{Tunes, letters_of, method_texts, call_texts, mark_at, is_for, OverIsRight, MarkIsRight, Fits, FitsAll, AreApart, parts_of, StagePasses, LettersPass, MethodsSpell, CallsSpell, OversPass, MarksPass, LengthsPass, Makes, ProblemFile, IsFirstUnspelled, IsFileFault, FirstProblemFault}
+use Rattle.cr_read.specs.Reading.{file_fault}
 
 -- an answer: a problem, or a fault
 abbrev pub Verdict : Type 0
@@ -54,12 +57,6 @@ check_one Fails Passes Next one apart next r s (inr a) (inr b) = next a.0 r s a.
 
 -- ---- the first that is wrong
 
-first_one : (P : ℕ → Type 0) (n i j : ℕ) → IsFirstWrong P n i → IsFirstWrong P n j → i ≡ j
-first_one P n i j a b = elim (cases_lt i j) [
-  | inl less ↦ absurd (a.wrong (b.before i less))
-  | inr more ↦ elim (cases_lt j i) [ inl less ↦ absurd (b.wrong (a.before j less)) | inr same ↦ omega arith ]
-]
-
 none_wrong : (P : ℕ → Type 0) (n i : ℕ) → IsFirstWrong P n i → ((k : ℕ) → k < n → P k) → ⊥
 none_wrong P n i a all = a.wrong (all i a.within)
 
@@ -68,7 +65,7 @@ abbrev FirstGives : (ℕ → ProblemFault) → (ℕ → Type 0) → ℕ → Verd
 FirstGives name P n r = (i : ℕ) × (r ≡ Err (name i)) × IsFirstWrong P n i
 
 first_gives_one : (name : ℕ → ProblemFault) (P : ℕ → Type 0) (n : ℕ) → IsOne (FirstGives name P n)
-first_gives_one name P n r s a b = a.1 ∙ ap (λ i. Err (name i)) (first_one P n a.0 b.0 a.2 b.2) ∙ sym b.1
+first_gives_one name P n r s a b = a.1 ∙ ap (λ i. Err (name i)) (one_first P n a.0 b.0 a.2 b.2) ∙ sym b.1
 
 each_check : (name : ℕ → ProblemFault) (P : ℕ → Type 0) (n : ℕ) (Next : Verdict → Type 0) → (((i : ℕ) → i < n → P i) → IsOne Next) → IsOne (Check (FirstGives name P n) ((i : ℕ) → i < n → P i) Next)
 each_check name P n Next next = check_one (FirstGives name P n) ((i : ℕ) → i < n → P i) Next (first_gives_one name P n) (λ r a all. none_wrong P n a.0 a.2 all) next
@@ -80,91 +77,17 @@ Tells why P r = (r ≡ Err why) × (P → ⊥)
 one_check : (why : ProblemFault) (P : Type 0) (Next : Verdict → Type 0) → (P → IsOne Next) → IsOne (Check (Tells why P) P Next)
 one_check why P Next next = check_one (Tells why P) P Next (λ r s a b. a.0 ∙ sym b.0) (λ r a holds. a.1 holds) next
 
--- ---- the checks of a problem's parts, from the number of steps on
+-- ---- the parts of a problem
 
-module _ (p : ProblemParts) where
-  abbrev ComAnswer : Verdict → Type 0
-  ComAnswer = Check (Tells fault.Com (ComIsRight p.query.com)) (ComIsRight p.query.com) (λ r. r ≡ Ok p)
+-- they are sound, or have a fault
+abbrev PartAnswer : ProblemParts → Verdict → Type 0
+PartAnswer p r = ((r ≡ Ok p) × IsSound p) ⊎ ((why : PartFault) × (r ≡ Err (file_fault why)) × IsPartFault p why)
 
-  abbrev PatternAnswer : Verdict → Type 0
-  PatternAnswer = Check (FirstGives fault.Pattern (λ i. PatternIsRight p.stage i (pattern_at p.query.patterns i)) (length p.query.patterns)) ((i : ℕ) → i < length p.query.patterns → PatternIsRight p.stage i (pattern_at p.query.patterns i)) ComAnswer
-
-  abbrev MethodCountAnswer : Verdict → Type 0
-  MethodCountAnswer = Check (FirstGives (λ i. fault.Count (counted.Method i)) (λ i. MethodCountIsRight p.letters i (method_count_at p.query.method_counts i)) (length p.query.method_counts)) ((i : ℕ) → i < length p.query.method_counts → MethodCountIsRight p.letters i (method_count_at p.query.method_counts i)) PatternAnswer
-
-  abbrev CountAnswer : Verdict → Type 0
-  CountAnswer = Check (FirstGives (λ i. fault.Count (counted.Mark i)) (λ i. CountIsRight p.leads i (count_at p.query.counts i)) (length p.query.counts)) ((i : ℕ) → i < length p.query.counts → CountIsRight p.leads i (count_at p.query.counts i)) MethodCountAnswer
-
-  abbrev PartsAnswer : Verdict → Type 0
-  PartsAnswer = Check (Tells (fault.Parts p.query.parts) ((pos 1 ≤ℤ p.query.parts) × (p.query.parts ≤ℤ pos 64))) ((pos 1 ≤ℤ p.query.parts) × (p.query.parts ≤ℤ pos 64)) CountAnswer
-
-  abbrev DepthAnswer : Verdict → Type 0
-  DepthAnswer = Check (Tells (fault.Deep (cap p / shortest p)) (cap p / shortest p ≤ 1024)) (cap p / shortest p ≤ 1024) PartsAnswer
-
-  abbrev RangeAnswer : Verdict → Type 0
-  RangeAnswer = Check (Tells (fault.Range p.query.min p.query.max) (LimitsAreRight (pos 1) p.query.min p.query.max)) (LimitsAreRight (pos 1) p.query.min p.query.max) DepthAnswer
-
-  abbrev PartAnswer : Verdict → Type 0
-  PartAnswer = Check (Tells (fault.Steps (length p.leads)) (length p.leads ≤ 24)) (length p.leads ≤ 24) RangeAnswer
-
-  part_one : IsOne PartAnswer
-  part_one =
-      one_check (fault.Steps (length p.leads)) (length p.leads ≤ 24) RangeAnswer (λ _.
-      one_check (fault.Range p.query.min p.query.max) (LimitsAreRight (pos 1) p.query.min p.query.max) DepthAnswer (λ _.
-      one_check (fault.Deep (cap p / shortest p)) (cap p / shortest p ≤ 1024) PartsAnswer (λ _.
-      one_check (fault.Parts p.query.parts) ((pos 1 ≤ℤ p.query.parts) × (p.query.parts ≤ℤ pos 64)) CountAnswer (λ _.
-      each_check (λ i. fault.Count (counted.Mark i)) (λ i. CountIsRight p.leads i (count_at p.query.counts i)) (length p.query.counts) MethodCountAnswer (λ _.
-      each_check (λ i. fault.Count (counted.Method i)) (λ i. MethodCountIsRight p.letters i (method_count_at p.query.method_counts i)) (length p.query.method_counts) PatternAnswer (λ _.
-      each_check fault.Pattern (λ i. PatternIsRight p.stage i (pattern_at p.query.patterns i)) (length p.query.patterns) ComAnswer (λ _.
-      one_check fault.Com (ComIsRight p.query.com) (λ r. r ≡ Ok p) (λ _ r s a b. a ∙ sym b))))))))
-
-  from_steps : (r : Verdict) → StepsPass p → RangeAnswer r → PartAnswer r
-  from_steps r pass later = inr (pass.few, later)
-
-  from_range : (r : Verdict) → RangePasses p → DepthAnswer r → PartAnswer r
-  from_range r pass later = from_steps r pass.before (inr (pass.range, later))
-
-  from_depth : (r : Verdict) → DepthPasses p → PartsAnswer r → PartAnswer r
-  from_depth r pass later = from_range r pass.before (inr (pass.shallow, later))
-
-  from_parts : (r : Verdict) → PartsPass p → CountAnswer r → PartAnswer r
-  from_parts r pass later = from_depth r pass.before (inr ((pass.from, pass.to), later))
-
-  from_counts : (r : Verdict) → CountsPass p → MethodCountAnswer r → PartAnswer r
-  from_counts r pass later = from_parts r pass.before (inr (pass.counts, later))
-
-  from_method_counts : (r : Verdict) → MethodCountsPass p → PatternAnswer r → PartAnswer r
-  from_method_counts r pass later = from_counts r pass.before (inr (pass.method_counts, later))
-
-  from_patterns : (r : Verdict) → PatternsPass p → ComAnswer r → PartAnswer r
-  from_patterns r pass later = from_method_counts r pass.before (inr (pass.patterns, later))
-
-  sound_answer : IsSound p → PartAnswer (Ok p)
-  sound_answer s = inr (s.few, inr (s.range, inr (s.shallow, inr ((s.parts_from, s.parts_to), inr (s.counts, inr (s.method_counts, inr (s.patterns, inr (s.limits, refl))))))))
-
-  steps_answer : (number : ℕ) → IsPartFault p (part.Steps number) → PartAnswer (Err (fault.Steps number))
-  steps_answer number is = inl (ap (λ k. Err (fault.Steps k)) is.1, λ few. (let h : length p.leads ≤ 24 = few in let e : number ≡ length p.leads = is.1 in let m : 24 < number = is.2 in omega arith))
-
-  range_answer : (low high : ℤ) → IsPartFault p (part.Range low high) → PartAnswer (Err (fault.Range low high))
-  range_answer low high is = from_steps _ is.0 (inl (ap₂ (λ x y. Err (fault.Range x y)) is.1 is.2, λ right. is.3 (rw (is.1, is.2) right)))
-
-  deep_answer : (depth : ℕ) → IsPartFault p (part.Deep depth) → PartAnswer (Err (fault.Deep depth))
-  deep_answer depth is = from_range _ is.0 (inl (ap (λ k. Err (fault.Deep k)) is.1, λ few. (let h : cap p / shortest p ≤ 1024 = few in let e : depth ≡ cap p / shortest p = is.1 in let m : 1024 < depth = is.2 in omega arith)))
-
-  parts_answer : (parts : ℤ) → IsPartFault p (part.Parts parts) → PartAnswer (Err (fault.Parts parts))
-  parts_answer parts is = from_depth _ is.0 (inl (ap (λ k. Err (fault.Parts k)) is.1, λ right. is.2 (rw is.1 right)))
-
-  mark_answer : (i : ℕ) → IsPartFault p (part.Count (counted.Mark i)) → PartAnswer (Err (fault.Count (counted.Mark i)))
-  mark_answer i is = from_parts _ is.0 (inl (i, refl, is.1))
-
-  method_answer : (i : ℕ) → IsPartFault p (part.Count (counted.Method i)) → PartAnswer (Err (fault.Count (counted.Method i)))
-  method_answer i is = from_counts _ is.0 (inl (i, refl, is.1))
-
-  pattern_answer : (i : ℕ) → IsPartFault p (part.Pattern i) → PartAnswer (Err (fault.Pattern i))
-  pattern_answer i is = from_method_counts _ is.0 (inl (i, refl, is.1))
-
-  com_answer : IsPartFault p part.Com → PartAnswer (Err fault.Com)
-  com_answer is = from_patterns _ is.0 (inl (refl, is.1))
+part_one : (p : ProblemParts) → IsOne (PartAnswer p)
+part_one p r s (inl a) (inl b) = a.0 ∙ sym b.0
+part_one p r s (inl a) (inr b) = absurd (sound_has_no_fault p b.0 a.1 b.2)
+part_one p r s (inr a) (inl b) = absurd (sound_has_no_fault p a.0 b.1 a.2)
+part_one p r s (inr a) (inr b) = a.1 ∙ ap (λ why. Err (file_fault why)) (one_part_fault p a.0 b.0 a.2 b.2) ∙ sym b.1
 
 -- ---- the checks of a file's values
 
@@ -228,9 +151,9 @@ module _ (one_list : OneList) (one_fault : OneFault) (never_both : NeverBoth) wh
 
     clash_one : IsOne ClashFails
     clash_one r s a b =
-        let later : a.1 ≡ b.1 = first_one (λ j. (i : ℕ) → i < j → AreApart file i j) (length file.calls) a.1 b.1 a.3 b.3 in
+        let later : a.1 ≡ b.1 = one_first (λ j. (i : ℕ) → i < j → AreApart file i j) (length file.calls) a.1 b.1 a.3 b.3 in
         let there : IsFirstWrong (λ i. AreApart file i a.1) a.1 b.0 = subst (λ (k : ℕ). IsFirstWrong (λ i. AreApart file i k) k b.0) (sym later) b.4 in
-        a.2 ∙ ap₂ (λ x y. Err (fault.Clash x y)) (first_one (λ i. AreApart file i a.1) a.1 a.0 b.0 a.4 there) later ∙ sym b.2
+        a.2 ∙ ap₂ (λ x y. Err (fault.Clash x y)) (one_first (λ i. AreApart file i a.1) a.1 a.0 b.0 a.4 there) later ∙ sym b.2
 
     abbrev ClashAnswer : ℕ → Tunes → Verdict → Type 0
     ClashAnswer n tunes = Check ClashFails Apart (PartAnswer (parts_of n file tunes))
@@ -240,9 +163,9 @@ module _ (one_list : OneList) (one_fault : OneFault) (never_both : NeverBoth) wh
 
     length_one : (tunes : Tunes) → IsOne (LengthFails tunes)
     length_one tunes r s a b =
-        let calls : a.0 ≡ b.0 = first_one (FitsAll file tunes) (length file.calls) a.0 b.0 a.3 b.3 in
+        let calls : a.0 ≡ b.0 = one_first (FitsAll file tunes) (length file.calls) a.0 b.0 a.3 b.3 in
         let there : IsFirstWrong (λ m. is_for file a.0 m ≡ true → Fits file tunes a.0 m) (length file.methods) b.1 = subst (λ (k : ℕ). IsFirstWrong (λ m. is_for file k m ≡ true → Fits file tunes k m) (length file.methods) b.1) (sym calls) b.4 in
-        a.2 ∙ ap₂ (λ x y. Err (fault.CallLength x y)) calls (first_one (λ m. is_for file a.0 m ≡ true → Fits file tunes a.0 m) (length file.methods) a.1 b.1 a.4 there) ∙ sym b.2
+        a.2 ∙ ap₂ (λ x y. Err (fault.CallLength x y)) calls (one_first (λ m. is_for file a.0 m ≡ true → Fits file tunes a.0 m) (length file.methods) a.1 b.1 a.4 there) ∙ sym b.2
 
     abbrev LengthAnswer : ℕ → Tunes → Verdict → Type 0
     LengthAnswer n tunes = Check (LengthFails tunes) ((call : ℕ) → call < length file.calls → FitsAll file tunes call) (ClashAnswer n tunes)
@@ -326,14 +249,13 @@ module _ (one_list : OneList) (one_fault : OneFault) (never_both : NeverBoth) wh
     fault_answers (fault.Mark i) is = from_overs _ is.0 is.1 is.2 (inl (i, refl, is.3))
     fault_answers (fault.CallLength call method) is = from_marks _ is.0 is.1 is.2 (inl (call, method, refl, is.3, is.4))
     fault_answers (fault.Clash first second) is = from_lengths _ is.0 is.1 is.2 (inl (first, second, refl, is.3, is.4))
-    fault_answers (fault.Steps number) is = from_made _ is.0 is.1 (steps_answer is.0 number is.2)
-    fault_answers (fault.Range low high) is = from_made _ is.0 is.1 (range_answer is.0 low high is.2)
-    fault_answers (fault.Deep depth) is = from_made _ is.0 is.1 (deep_answer is.0 depth is.2)
-    fault_answers (fault.Parts parts) is = from_made _ is.0 is.1 (parts_answer is.0 parts is.2)
-    fault_answers (fault.Count (counted.Mark i)) is = from_made _ is.0 is.1 (mark_answer is.0 i is.2)
-    fault_answers (fault.Count (counted.Method i)) is = from_made _ is.0 is.1 (method_answer is.0 i is.2)
-    fault_answers (fault.Pattern i) is = from_made _ is.0 is.1 (pattern_answer is.0 i is.2)
-    fault_answers fault.Com is = from_made _ is.0 is.1 (com_answer is.0 is.2)
+    fault_answers (fault.Steps number) is = from_made _ is.0 is.1 (inr ((part.Steps number), refl, is.2))
+    fault_answers (fault.Range low high) is = from_made _ is.0 is.1 (inr ((part.Range low high), refl, is.2))
+    fault_answers (fault.Deep depth) is = from_made _ is.0 is.1 (inr ((part.Deep depth), refl, is.2))
+    fault_answers (fault.Parts parts) is = from_made _ is.0 is.1 (inr ((part.Parts parts), refl, is.2))
+    fault_answers (fault.Count at) is = from_made _ is.0 is.1 (inr (part.Count at, refl, is.2))
+    fault_answers (fault.Pattern i) is = from_made _ is.0 is.1 (inr ((part.Pattern i), refl, is.2))
+    fault_answers fault.Com is = from_made _ is.0 is.1 (inr (part.Com, refl, is.2))
     fault_answers _ is = absurd is
 
   -- ---- the bytes
@@ -375,7 +297,7 @@ module _ (one_list : OneList) (one_fault : OneFault) (never_both : NeverBoth) wh
   file_answers bytes file r is answer = inr (is.table, is.reads, inr (is.keys, subst (λ (f : FileParts). FileAnswer f r) is.is answer))
 
   bytes_answer : (bytes : List ℕ) (r : Verdict) → Answers bytes r → BytesAnswer bytes r
-  bytes_answer bytes (Ok p) is = file_answers bytes is.file (Ok p) is.is_file (from_made is.file (Ok p) p is.makes (sound_answer p is.sound))
+  bytes_answer bytes (Ok p) is = file_answers bytes is.file (Ok p) is.is_file (from_made is.file (Ok p) p is.makes (inl (refl, is.sound)))
   bytes_answer bytes (Err fault.NotToml) is = inl (refl, is)
   bytes_answer bytes (Err (fault.Key path)) is = inr (is.0, is.2, inl (path, is.1, refl, is.3))
   bytes_answer bytes (Err why) is = file_answers bytes is.0 (Err why) is.1 (fault_answers is.0 why is.2)

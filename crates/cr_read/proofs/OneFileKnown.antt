@@ -7,8 +7,9 @@ use Rattle.cr_model.specs.declared.query.Count.{Count}
 use Rattle.cr_model.specs.declared.query.MethodCount.{MethodCount}
 use Rattle.cr_model.specs.declared.query.Com.{Com}
 use Rattle.cr_model.specs.Problems.{LeadParts, PatternParts}
-use Rattle.cr_model.specs.Sound.{plain, LetterIsRight, step_at, LimitsAreRight, CountIsRight, MethodCountIsRight, bell_named, is_run, cell_at, FitsStage, CellsAreRight, PatternIsRight, ComIsRight}
-use Rattle.cr_model.specs.Faults.{IsFirstWrong}
+use Rattle.cr_model.specs.Callings.{step_at}
+use Rattle.cr_model.specs.Checks.{IsFirstWrong}
+use Rattle.cr_model.specs.Right.{plain, LetterIsRight, LimitsAreRight, CountIsRight, MethodCountIsRight, bell_named, is_run, cell_at, FitsStage, IsNamedFirst, CellsAreRight, PatternIsRight, ComIsRight}
 use Rattle.cr_model.specs.Files.{FileParts}
 use Rattle.cr_model.specs.ProblemFiles.{Tunes, call_at, mark_at, is_for, tune_at, over_at, called_tune, OverIsRight, MarkIsRight, Fits, FitsAll, AreApart}
 
@@ -20,7 +21,7 @@ known_as : (P Q : Type 0) → Known P → (P → Q) → (Q → P) → Known Q
 known_as P Q (inl holds) to from = inl (to holds)
 known_as P Q (inr fails) to from = inr (λ q. fails (from q))
 
-known_and : (P Q : Type 0) → Known P → Known Q → Known (P × Q)
+pub known_and : (P Q : Type 0) → Known P → Known Q → Known (P × Q)
 known_and P Q (inl p) (inl q) = inl (p, q)
 known_and P Q (inl p) (inr fails) = inr (λ h. fails h.1)
 known_and P Q (inr fails) q = inr (λ h. fails h.0)
@@ -146,11 +147,10 @@ known_unlike (Some x) (Some y) = elim (cases_eq x y) [
   | inr differ ↦ inl (λ b is also. differ (let e : x ≡ y = cc in e))
 ]
 
-known_once : (cells : List Cell) → Known ((j k b : ℕ) → j < k → k < length cells → bell_named (cell_at cells j) ≡ Some b → bell_named (cell_at cells k) ≢ Some b)
-known_once cells = known_as ((k : ℕ) → k < length cells → (j : ℕ) → j < k → AreUnlike (bell_named (cell_at cells j)) (bell_named (cell_at cells k))) _
-    (known_each (λ k. (j : ℕ) → j < k → AreUnlike (bell_named (cell_at cells j)) (bell_named (cell_at cells k)))
-    (λ k. known_each (λ j. AreUnlike (bell_named (cell_at cells j)) (bell_named (cell_at cells k))) (λ j. known_unlike (bell_named (cell_at cells j)) (bell_named (cell_at cells k))) k) (length cells))
-    (λ h j k b before within. h k within j before b) (λ h k within j before b. h j k b before within)
+known_once : (cells : List Cell) → Known ((k : ℕ) → k < length cells → IsNamedFirst cells k)
+known_once cells = known_each (IsNamedFirst cells) (λ k. known_as ((j : ℕ) → j < k → AreUnlike (bell_named (cell_at cells j)) (bell_named (cell_at cells k))) (IsNamedFirst cells k)
+    (known_each (λ j. AreUnlike (bell_named (cell_at cells j)) (bell_named (cell_at cells k))) (λ j. known_unlike (bell_named (cell_at cells j)) (bell_named (cell_at cells k))) k)
+    (λ h j b before. h j before b) (λ h j before b. h j b before)) (length cells)
 
 known_cells : (stage : ℕ) (cells : List Cell) → Known (CellsAreRight stage cells)
 known_cells stage cells = known_as _ (CellsAreRight stage cells)

@@ -9,6 +9,8 @@ use Rattle.toml.specs.Data.{Members}
 use Rattle.toml.specs.Parse.{parse_document}
 use Rattle.cr_row.specs.Rows.{Places}
 use Rattle.cr_model.specs.declared.fault.CountAt.TheVariants as counted
+use Rattle.cr_model.specs.declared.fault.PartFault.{PartFault}
+use Rattle.cr_model.specs.declared.fault.PartFault.TheVariants as part
 use Rattle.cr_model.specs.declared.notation.NotationFault.{NotationFault}
 use Rattle.cr_model.specs.declared.file_fault.Whose.TheVariants as whose
 use Rattle.cr_model.specs.declared.file_fault.ProblemFault.{ProblemFault}
@@ -16,16 +18,19 @@ use Rattle.cr_model.specs.declared.file_fault.ProblemFault.TheVariants as fault
 use Rattle.cr_model.specs.Problems.{ProblemParts}
 use Rattle.cr_model.specs.Callings.{shortest}
 use Rattle.cr_model.specs.Queries.{cap}
-use Rattle.cr_model.specs.Sound.{LetterIsRight, CountIsRight, count_at, MethodCountIsRight, method_count_at, PatternIsRight, pattern_at, IsSound}
-use Rattle.cr_model.specs.Faults.{LeadsPass, StepsPass, RangePasses, DepthPasses, PartsPass, CountsPass, MethodCountsPass, PatternsPass}
+use Rattle.cr_model.specs.Checks.{Check, one_fault, each_index, AllHold, IsFirstFailure}
+use Rattle.cr_model.specs.Right.{LetterIsRight, LettersAreRight, LeadsAreRight, count_at, method_count_at, pattern_at}
+use Rattle.cr_model.specs.Sound.{IsSound}
+use Rattle.cr_model.specs.Faults.{checks, query_checks, IsPartFault}
 use Rattle.cr_model.specs.Notation.{Spells}
 use Rattle.cr_model.specs.NotationFaults.{FirstFault}
 use Rattle.cr_model.specs.Keys.{key_faults}
 use Rattle.cr_model.specs.Files.{FileParts, file_of, Reads, IsFile}
 use Rattle.cr_model.specs.ProblemFiles.{Tunes, letters_of, method_texts, call_texts, mark_at, is_for, OverIsRight, MarkIsRight, Fits, FitsAll, AreApart, parts_of, StagePasses, LettersPass, MethodsSpell, CallsSpell, OversPass, MarksPass, LengthsPass, CallsPass, Makes, ProblemFile, IsSpelled, IsFirstUnspelled, IsFileFault, FirstProblemFault}
-use Rattle.cr_read.proofs.LeadsRight.{leads_right, letters_right}
+use Rattle.cr_read.proofs.LeadsRight.{leads_right, letters_right, later_fault, fault_made}
+use Rattle.cr_read.specs.Reading.{file_fault}
 use Rattle.cr_read.proofs.MethodsThere.{some_methods}
-use Rattle.cr_read.proofs.OneFileKnown.{known_le_int, first_wrong, known_each, known_letter, known_over, known_mark, known_fit, known_fits, known_apart, known_limits, known_count, known_method_count, known_pattern, known_com}
+use Rattle.cr_read.proofs.OneFileKnown.{Known, known_and, known_le, known_le_int, first_wrong, known_each, known_letter, known_over, known_mark, known_fit, known_fits, known_apart, known_limits, known_count, known_method_count, known_pattern, known_com}
 
 -- What is known of notation: a text spells changes, or has a first fault.
 abbrev pub TakenOrRefused : Type 0
@@ -50,78 +55,60 @@ later n text texts i why spelled first = record { within = (let low : i < length
 abbrev Answer : FileParts → Type 0
 Answer file = ((p : ProblemParts) × Makes file p × IsSound p) ⊎ ((f : ProblemFault) × IsFileFault file f)
 
-module _ (file : FileParts) (p : ProblemParts) (makes : Makes file p) where
-  after_patterns : PatternsPass p → Answer file
-  after_patterns h = elim (known_com p.query.com) [
-    | inl right ↦
-        let counts = h.before.before in
-        let parts = counts.before in
-        let range = parts.before.before in
-        let leads = range.before.before in
-        inl (
-          p,
-          makes,
-          record {
-            letters = leads.before;
-            leads = leads.leads;
-            few = range.before.few;
-            range = range.range;
-            shallow = parts.before.shallow;
-            parts_from = parts.from;
-            parts_to = parts.to;
-            counts = counts.counts;
-            method_counts = h.before.method_counts;
-            patterns = h.patterns;
-            limits = right;
-          },
-        )
-    | inr wrong ↦ inr (fault.Com, (p, makes, (h, wrong)))
-  ]
+-- a check holds or fails
+abbrev IsKnown : Check PartFault → Type 0
+IsKnown check = check.holds ⊎ ((why : PartFault) × check.fails why)
 
-  after_method_counts : MethodCountsPass p → Answer file
-  after_method_counts h = elim (first_wrong (λ i. PatternIsRight p.stage i (pattern_at p.query.patterns i)) (λ i. known_pattern p.stage i (pattern_at p.query.patterns i)) (length p.query.patterns)) [
-    | inl all ↦ after_patterns (record { before = h; patterns = all })
-    | inr first ↦ inr (fault.Pattern first.0, (p, makes, (h, first.1)))
-  ]
+abbrev AreKnown : List (Check PartFault) → Type 0
+AreKnown [] = Unit {0}
+AreKnown (check ∷ checks) = IsKnown check × AreKnown checks
 
-  after_counts : CountsPass p → Answer file
-  after_counts h = elim (first_wrong (λ i. MethodCountIsRight p.letters i (method_count_at p.query.method_counts i)) (λ i. known_method_count p.letters i (method_count_at p.query.method_counts i)) (length p.query.method_counts)) [
-    | inl all ↦ after_method_counts (record { before = h; method_counts = all })
-    | inr first ↦ inr (fault.Count (counted.Method first.0), (p, makes, (h, first.1)))
-  ]
+-- all of some checks hold, or one is the first that does not
+first_failure : (checks : List (Check PartFault)) → AreKnown checks → AllHold checks ⊎ ((why : PartFault) × IsFirstFailure checks why)
+first_failure [] known = inl tt
+first_failure (check ∷ checks) (inl holds, later) = elim (first_failure checks later) [
+  | inl all ↦ inl (holds, all)
+  | inr first ↦ inr (first.0, inr (holds, first.1))
+]
+first_failure (check ∷ checks) (inr fails, later) = inr (fails.0, inl fails.1)
 
-  after_parts : PartsPass p → Answer file
-  after_parts h = elim (first_wrong (λ i. CountIsRight p.leads i (count_at p.query.counts i)) (λ i. known_count p.leads i (count_at p.query.counts i)) (length p.query.counts)) [
-    | inl all ↦ after_counts (record { before = h; counts = all })
-    | inr first ↦ inr (fault.Count (counted.Mark first.0), (p, makes, (h, first.1)))
-  ]
+known_one : (P : Type 0) (why : PartFault) → Known P → IsKnown (one_fault P why)
+known_one P why (inl holds) = inl holds
+known_one P why (inr fails) = inr (why, (refl, fails))
 
-  after_depth : DepthPasses p → Answer file
-  after_depth h = elim (known_le_int (pos 1) p.query.parts) [
-    | inl from ↦ elim (known_le_int p.query.parts (pos 64)) [
-      | inl to ↦ after_parts (record { before = h; from = from; to = to })
-      | inr over ↦ inr (fault.Parts p.query.parts, (p, makes, (h, refl, λ right. over right.1)))
-    ]
-    | inr under ↦ inr (fault.Parts p.query.parts, (p, makes, (h, refl, λ right. under right.0)))
-  ]
+known_index : (P : ℕ → Type 0) (number : ℕ) (why : ℕ → PartFault) → ((i : ℕ) → Known (P i)) → IsKnown (each_index P number why)
+known_index P number why known = elim (first_wrong P known number) [
+  | inl all ↦ inl all
+  | inr first ↦ inr (why first.0, (first.0, refl, first.1))
+]
 
-  after_range : RangePasses p → Answer file
-  after_range h = elim (cases_lt 1024 (cap p / shortest p)) [
-    | inl deep ↦ inr (fault.Deep (cap p / shortest p), (p, makes, (h, refl, deep)))
-    | inr shallow ↦ after_depth (record { before = h; shallow = shallow })
-  ]
+module _ (p : ProblemParts) (letters : LettersAreRight p.letters) (leads : LeadsAreRight p.stage (length p.letters) p.leads) where
+  known_query : AreKnown (query_checks p)
+  known_query = (
+    known_index _ _ (λ i. part.Count (counted.Mark i)) (λ i. known_count p.leads i (count_at p.query.counts i)),
+    (
+      known_index _ _ (λ i. part.Count (counted.Method i)) (λ i. known_method_count p.letters i (method_count_at p.query.method_counts i)),
+      (known_index _ _ part.Pattern (λ i. known_pattern p.stage i (pattern_at p.query.patterns i)), (known_one _ part.Com (known_com p.query.com), tt)),
+    ),
+  )
 
-  after_steps : StepsPass p → Answer file
-  after_steps h = elim (known_limits (pos 1) p.query.min p.query.max) [
-    | inl range ↦ after_range (record { before = h; range = range })
-    | inr wrong ↦ inr (fault.Range p.query.min p.query.max, (p, makes, (h, refl, refl, wrong)))
-  ]
-
-  after_leads : LeadsPass p → Answer file
-  after_leads h = elim (cases_lt 24 (length p.leads)) [
-    | inl many ↦ inr (fault.Steps (length p.leads), (p, makes, (h, refl, many)))
-    | inr few ↦ after_steps (record { before = h; few = few })
-  ]
+  known_parts : AreKnown (checks p)
+  known_parts = (
+    inl letters,
+    (
+      inl leads,
+      (
+        known_one _ _ (known_le (length p.leads) 24),
+        (
+          known_one _ _ (known_limits (pos 1) p.query.min p.query.max),
+          (
+            known_one _ _ (known_le (cap p / shortest p) 1024),
+            (known_one _ _ (known_and _ _ (known_le_int (pos 1) p.query.parts) (known_le_int p.query.parts (pos 64))), known_query),
+          ),
+        ),
+      ),
+    ),
+  )
 
 -- the texts spell changes, or one is the first that does not
 spelled_or : TakenOrRefused → (n : ℕ) (texts : List (List ℕ)) → ((tunes : List (List Places)) × AllZip (Spells n) texts tunes) ⊎ ((i : ℕ) × (why : NotationFault) × IsFirstUnspelled n texts i why)
@@ -137,8 +124,17 @@ spelled_or taken n (text ∷ texts) = elim (taken n text) [
 module _ (file : FileParts) (some : 1 ≤ length file.methods) where
   after_calls : (n : ℕ) (tunes : Tunes) → CallsPass file n tunes → Answer file
   after_calls n tunes h =
+      let stage = h.before.before.before.before.before.before.before in
       let makes : Makes file (parts_of n file tunes) = record { n = n; tunes = tunes; passes = h; is = refl } in
-      after_leads file (parts_of n file tunes) makes (record { before = letters_right file n tunes h some; leads = leads_right file n tunes h some })
+      let p = parts_of n file tunes in
+      let letters : LettersAreRight p.letters = letters_right file n tunes h some in
+      let leads : LeadsAreRight p.stage (length p.letters) p.leads = leads_right file n tunes h some in
+      elim (first_failure (checks p) (known_parts p letters leads)) [
+        | inl all ↦ inl (p, makes, record { stage_from = stage.from; stage_to = stage.to; checks = all })
+        | inr first ↦
+            let is : IsPartFault p first.0 = record { first = first.1 } in
+            inr (file_fault first.0, fault_made file p first.0 makes is (later_fault p first.0 letters leads is))
+      ]
 
   after_lengths : (n : ℕ) (tunes : Tunes) → LengthsPass file n tunes → Answer file
   after_lengths n tunes h = elim (first_wrong (λ j. (i : ℕ) → i < j → AreApart file i j) (λ j. known_each (λ i. AreApart file i j) (λ i. known_apart file i j) j) (length file.calls)) [

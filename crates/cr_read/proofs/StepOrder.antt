@@ -7,7 +7,8 @@ use Rattle.std.proofs.lemmas.List.Elements.{All-append, All-nil, All-cons}
 use Rattle.cr_row.specs.Rows.{Places}
 use Rattle.cr_model.specs.declared.lead.Step.{Step}
 use Rattle.cr_model.specs.Problems.{LeadParts}
-use Rattle.cr_model.specs.Sound.{plain, step_at, IsNextStep}
+use Rattle.cr_model.specs.Callings.{step_at}
+use Rattle.cr_model.specs.Right.{plain, IsNextStep}
 use Rattle.cr_model.specs.ProblemFiles.{lead_from}
 
 -- each step follows the one before

@@ -6,7 +6,7 @@ use Rattle.std.proofs.lemmas.Bool.{cases_Bool, and_parts, cases_lt}
 use Rattle.std.proofs.lemmas.Bool.Decides.{nat_tests}
 use Rattle.std.proofs.lemmas.List.Elements.{All-nil, All-cons, All-contains, Contains-append_left, Contains-append_right}
 use Rattle.cr_model.specs.Problems.{LeadParts}
-use Rattle.cr_model.specs.Sound.{plain}
+use Rattle.cr_model.specs.Right.{plain}
 use Rattle.cr_model.specs.Files.{FileParts}
 use Rattle.cr_model.specs.ProblemFiles.{Tunes, mark_at, is_for, tune_at, called_tune, call_with, lead_from, called_lead, leads_of_method, leads_of, CallsPass}
 use Rattle.cr_read.specs.Steps.{IsLeadOf}

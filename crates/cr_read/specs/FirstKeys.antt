@@ -1,13 +1,18 @@
 -- The first of some keys at fault, and the keys of each table.
-use Rattle.std.specs.Prelude.{◌≡◌, ℕ, List, [], ◌∷◌, ◌++◌, true, false, map, codes, Result, MatchResult}
-use Rattle.toml.specs.Data.{Members, get_member}
+use Rattle.std.specs.Prelude.{◌≡◌, ℕ, List, [], ◌∷◌, map, flat_map, codes, Result, MatchResult}
+use Rattle.toml.specs.Data.{Members}
 use Rattle.toml.specs.View.{view}
 use Rattle.toml.specs.declared.value.Value.{Value}
-use Rattle.cr_model.specs.Keys.{Key, method_keys, call_keys, query_keys, limited_keys, com_keys, stage_key, key_fault, array_faults, part_faults, written_letters, text_at, members_in}
+use Rattle.cr_model.specs.Keys as keys
+use Rattle.cr_model.specs.Keys.{key_fault, text_at, members_in}
 use Rattle.cr_read.specs.declared.key_fault.KeyFault.{KeyFault}
 use Rattle.cr_read.specs.declared.key_fault.KeyFault.TheVariants.{At, NoMemory}
-use Rattle.cr_read.specs.declared.key_fault.Part.{Part}
-use Rattle.cr_read.specs.declared.key_fault.Part.TheVariants as part
+use Rattle.cr_read.specs.declared.parts.Kind.{Kind}
+use Rattle.cr_read.specs.declared.parts.Kind.TheVariants as kind
+use Rattle.cr_read.specs.declared.parts.Key.{Key}
+use Rattle.cr_read.specs.declared.parts.Shape.{Shape}
+use Rattle.cr_read.specs.declared.parts.Shape.TheVariants as shape
+use Rattle.cr_read.specs.declared.parts.Part.{Part}
 
 -- the path is the first of these. Want of memory says nothing
 abbrev pub IsFirst : List (List ℕ) → KeyFault → Type 0
@@ -22,35 +27,23 @@ Checks paths answer = MatchResult answer (λ _. paths ≡ []) (IsFirst paths)
 abbrev pub letters_in : List Value → List (List ℕ)
 letters_in methods = map (λ value. text_at (codes "letter") (members_in (view value))) methods
 
--- the keys of a table
-abbrev pub keys_of : Part → List (List ℕ) → List Key
-keys_of part.Method letters = method_keys
-keys_of part.Call letters = call_keys letters
-keys_of part.Query letters = query_keys
-keys_of part.Count letters = limited_keys (codes "mark")
-keys_of part.Leads letters = limited_keys (codes "letter")
-keys_of part.Rows letters = limited_keys (codes "pattern")
-keys_of part.Com letters = com_keys
+-- the kinds, keys and parts of the reader's table, where the methods have these letters
+abbrev pub kind_of : List (List ℕ) → Kind → keys.Kind
+kind_of letters kind.Text = keys.text
+kind_of letters kind.Number = keys.number
+kind_of letters kind.Letters = keys.selection letters
 
-abbrev pub names_of : Part → List (List ℕ)
-names_of kind = map (λ key. key.name) (keys_of kind [])
+abbrev pub key_of : List (List ℕ) → Key → keys.Key
+key_of letters key = record { name = key.name.now; kind = kind_of letters key.kind; needed = key.needed }
 
--- the faults of a file's keys in three groups: the stage, the methods and the calls
-abbrev pub steps_faults : Members → List (List ℕ)
-steps_faults members =
-    key_fault [] members stage_key
-    ++ (array_faults (codes "method") 1 8 method_keys (get_member (codes "method") members)
-    ++ array_faults (codes "call") 0 23 (call_keys (written_letters members)) (get_member (codes "call") members))
+abbrev pub shape_of : Shape → keys.Shape
+shape_of (shape.Several least most) = keys.several least most
+shape_of (shape.Single needed) = keys.single needed
 
--- the arrays of limits
-abbrev pub arrays_faults : Members → List (List ℕ)
-arrays_faults members =
-    array_faults (codes "count") 0 16 (limited_keys (codes "mark")) (get_member (codes "count") members)
-    ++ (array_faults (codes "leads") 0 16 (limited_keys (codes "letter")) (get_member (codes "leads") members)
-    ++ array_faults (codes "rows") 0 32 (limited_keys (codes "pattern")) (get_member (codes "rows") members))
+abbrev pub part_of : List (List ℕ) → Part → keys.Part
+part_of letters part =
+    record { name = part.name.now; shape = shape_of part.shape; keys = map (key_of letters) part.keys.now }
 
--- the query and the limits
-abbrev pub asked_faults : Members → List (List ℕ)
-asked_faults members =
-    part_faults (codes "query") true query_keys (get_member (codes "query") members)
-    ++ (arrays_faults members ++ part_faults (codes "com") false com_keys (get_member (codes "com") members))
+-- the faults of a table's known keys
+abbrev pub known_faults : List ℕ → List (List ℕ) → List Key → Members → List (List ℕ)
+known_faults path letters known members = flat_map (key_fault path members) (map (key_of letters) known)

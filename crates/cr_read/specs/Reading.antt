@@ -1,14 +1,13 @@
 -- What the steps of the reader say.
-use Rattle.std.specs.Prelude.{◌≡◌, ℕ, ◌<◌, true, List, ◌∷◌, length}
+use Rattle.std.specs.Prelude.{◌≡◌, ℕ, List, ◌∷◌, length}
 use Rattle.cr_model.specs.declared.file_fault.ProblemFault.{ProblemFault}
 use Rattle.cr_model.specs.declared.file_fault.ProblemFault.TheVariants as fault
 use Rattle.cr_model.specs.declared.fault.PartFault.{PartFault}
 use Rattle.cr_model.specs.declared.fault.PartFault.TheVariants as part
-use Rattle.cr_model.specs.Faults.{IsFirstWrong}
 use Rattle.cr_model.specs.Files.{FileParts, Reads}
 use Rattle.cr_model.specs.Keys.{key_faults}
 use Rattle.toml.specs.Data.{Members}
-use Rattle.cr_model.specs.ProblemFiles.{Tunes, mark_at, is_for, OverIsRight, MarkIsRight, Fits, FitsAll, AreApart, IsFileFault, FirstProblemFault}
+use Rattle.cr_model.specs.ProblemFiles.{Tunes, IsFileFault, FirstProblemFault}
 
 -- the fault is the file's first, or want of memory
 abbrev pub Refused : FileParts → ProblemFault → Type 0
@@ -20,35 +19,23 @@ pub record IsTuned (file : FileParts) (tunes : Tunes) : Type 0 where
   pub methods : length tunes.methods ≡ length file.methods
   pub calls : length tunes.calls ≡ length file.calls
 
--- The checks of the calls, one more each time.
-abbrev pub OversAreRight : FileParts → Type 0
-OversAreRight file = (call : ℕ) → call < length file.calls → OverIsRight file call
-
-abbrev pub MarksAreRight : FileParts → Type 0
-MarksAreRight file = (call : ℕ) → call < length file.calls → MarkIsRight (mark_at file call)
-
-abbrev pub LengthsAreRight : FileParts → Tunes → Type 0
-LengthsAreRight file tunes = (call : ℕ) → call < length file.calls → FitsAll file tunes call
-
-pub record CallsAreRight (file : FileParts) (tunes : Tunes) : Type 0 where
-  pub overs : OversAreRight file
-  pub marks : MarksAreRight file
-  pub lengths : LengthsAreRight file tunes
-  pub apart : (second : ℕ) → second < length file.calls → (first : ℕ) → first < second → AreApart file first second
-
--- the fault is that of the first check of the calls that does not hold
-abbrev pub IsCallFault : FileParts → Tunes → ProblemFault → Type 0
-IsCallFault file tunes (fault.Over call) = IsFirstWrong (OverIsRight file) (length file.calls) call
-IsCallFault file tunes (fault.Mark call) = OversAreRight file × IsFirstWrong (λ i. MarkIsRight (mark_at file i)) (length file.calls) call
-IsCallFault file tunes (fault.CallLength call method) = OversAreRight file × MarksAreRight file × IsFirstWrong (FitsAll file tunes) (length file.calls) call × IsFirstWrong (λ m. is_for file call m ≡ true → Fits file tunes call m) (length file.methods) method
-IsCallFault file tunes (fault.Clash first second) = OversAreRight file × MarksAreRight file × LengthsAreRight file tunes × IsFirstWrong (λ j. (i : ℕ) → i < j → AreApart file i j) (length file.calls) second × IsFirstWrong (λ i. AreApart file i second) second first
-IsCallFault file tunes _ = ⊥
-
 -- the fault is none of the letters or the leads, which are right in every file
 abbrev pub IsLater : PartFault → Type 0
 IsLater (part.Letters i) = ⊥
 IsLater (part.Leads i) = ⊥
 IsLater _ = Unit {0}
+
+-- a fault of parts as one of the file. The letters and the leads have none here
+abbrev pub file_fault : PartFault → ProblemFault
+file_fault (part.Letters i) = fault.NoMemory
+file_fault (part.Leads i) = fault.NoMemory
+file_fault (part.Steps number) = fault.Steps number
+file_fault (part.Range low high) = fault.Range low high
+file_fault (part.Deep depth) = fault.Deep depth
+file_fault (part.Parts parts) = fault.Parts parts
+file_fault (part.Count at) = fault.Count at
+file_fault (part.Pattern i) = fault.Pattern i
+file_fault part.Com = fault.Com
 
 -- the bytes are no table, or memory wants
 abbrev pub NotRead : List ℕ → ProblemFault → Type 0
@@ -59,7 +46,8 @@ NotRead bytes _ = ⊥
 -- they are no table whose keys are right
 abbrev pub NotFile : List ℕ → ProblemFault → Type 0
 NotFile bytes fault.NotToml = (table : Members) → Reads bytes table → ⊥
-NotFile bytes (fault.Key path) = (table : Members) × (rest : List (List ℕ)) × Reads bytes table × (key_faults table ≡ path ∷ rest)
+NotFile bytes (fault.Key path) =
+    (table : Members) × (rest : List (List ℕ)) × Reads bytes table × (key_faults table ≡ path ∷ rest)
 NotFile bytes fault.NoMemory = Unit {0}
 NotFile bytes _ = ⊥
 

@@ -1,9 +1,13 @@
 //! The checks of the calls: what they replace, their marks, their lengths, and that no two clash.
 
-ghost use Rattle.std.specs.Prelude.{◌≡◌, ◌≢◌, ℕ, ◌<◌, ◌≤◌, ◌↔◌, ◌+◌, ◌-◌, true, length, get_or, IsTrue, IfSome, MatchOption, MatchResult, unwrap_or, option_map, string_bytes};
-ghost use Rattle.cr_model.specs.Faults.{IsFirstWrong};
-ghost use Rattle.cr_model.specs.ProblemFiles.{letters_of, call_at, mark_at, is_named, is_for, tune_at, over_at, called_tune, OverIsRight, MarkIsRight, Fits, FitsAll, AreApart};
-ghost use Rattle.cr_read.specs.Reading.{IsTuned, CallsAreRight, IsCallFault};
+ghost use Rattle.std.specs.Prelude.{◌≡◌, ◌≢◌, ℕ, ◌<◌, ◌≤◌, ◌↔◌, ◌+◌, ◌-◌, true, length, get_or, IsTrue, IfSome};
+ghost use Rattle.std.specs.Prelude.{MatchOption, MatchResult, unwrap_or};
+ghost use Rattle.cr_model.specs.Checks.{IsFirstWrong, TellsFirst};
+ghost use Rattle.cr_model.specs.ProblemFiles.{letters_of, call_at, mark_at, is_named, is_for, tune_at, over_at};
+ghost use Rattle.cr_model.specs.ProblemFiles.{called_tune, OverIsRight, MarkIsRight, Fits, FitsAll, AreApart};
+ghost use Rattle.cr_model.specs.ProblemFiles.{Suits, ShareNoMethod, IsApart};
+ghost use Rattle.cr_model.specs.ProblemFiles.{CallsSpell, CallsPass, IsFileFault};
+ghost use Rattle.cr_read.specs.Reading.{IsTuned};
 
 use crate::file_parts::{CallText, File};
 use crate::keys::stands_in;
@@ -14,7 +18,7 @@ use cr_row::Change;
 
 // A call, by its index.
 #[tactic(auto, using(crate::proofs::CallFacts::call_is))]
-fn call_at(file: &File, call: usize) -> &CallText
+fn call_at<'a, 'b>(file: &'b File<'a>, call: usize) -> &'b CallText<'a>
     requires { call < length file.now.calls }
     ensures { result.now ≡ call_at file.now call }
 {
@@ -27,7 +31,7 @@ pub fn mark_of(file: &File, call: usize) -> u8
     ensures { result ≡ mark_at file.now call }
 {
     let text = call_at(file, call);
-    byte_of(text.mark.as_str())
+    byte_of(text.mark)
 }
 
 // How many changes a call replaces, if it says so.
@@ -39,11 +43,11 @@ fn over_of(file: &File, call: usize) -> Option<i64>
     text.over
 }
 
-// Whether a call that names these methods is for that with the letter.
-fn is_named(methods: &Option<String>, letter: u8) -> bool
-    ensures { result ≡ is_named (option_map string_bytes methods.now) letter }
+// Whether a call is for the method with the letter.
+fn is_named(call: &CallText, letter: u8) -> bool
+    ensures { result ≡ is_named call.now.methods letter }
 {
-    match methods {
+    match call.methods {
         Some(letters) => stands_in(letters.as_bytes(), letter),
         None => true,
     }
@@ -56,8 +60,7 @@ pub fn is_for(file: &File, letters: &[u8], call: usize, method: usize) -> bool
     requires there { method < length letters.now }
     ensures { result ≡ is_for file.now call method }
 {
-    let text = call_at(file, call);
-    is_named(&text.methods, letters[method])
+    is_named(call_at(file, call), letters[method])
 }
 
 fn over_is_right(file: &File, call: usize) -> bool
@@ -72,7 +75,7 @@ fn over_is_right(file: &File, call: usize) -> bool
 
 // The first call whose `over` is wrong.
 fn wrong_over(file: &File) -> Option<u64>
-    ensures { MatchOption result ((call : ℕ) → call < length file.now.calls → OverIsRight file.now call) (IsFirstWrong (OverIsRight file.now) (length file.now.calls)) }
+    ensures { TellsFirst (OverIsRight file.now) (length file.now.calls) result }
 {
     for call in 0..file.call_count() {
         if !over_is_right(file, call) {
@@ -90,7 +93,7 @@ fn mark_is_right(mark: u8) -> bool
 
 // The first call whose mark is wrong.
 fn wrong_mark(file: &File) -> Option<u64>
-    ensures { MatchOption result ((call : ℕ) → call < length file.now.calls → MarkIsRight (mark_at file.now call)) (IsFirstWrong (λ i. MarkIsRight (mark_at file.now i)) (length file.now.calls)) }
+    ensures { TellsFirst (λ i. MarkIsRight (mark_at file.now i)) (length file.now.calls) result }
 {
     for call in 0..file.call_count() {
         if !mark_is_right(mark_of(file, call)) {
@@ -142,7 +145,7 @@ fn suits(file: &File, letters: &[u8], tunes: &Tunes, call: usize, method: usize)
     requires known { call < length file.now.calls }
     requires there { method < length file.now.methods }
     requires tuned { IsTuned file.now tunes.now }
-    ensures { IsTrue result ↔ (is_for file.now call method ≡ true → Fits file.now tunes.now call method) }
+    ensures { IsTrue result ↔ Suits file.now tunes.now call method }
 {
     if is_for(file, letters, call, method) {
         fits(file, tunes, call, method)
@@ -156,7 +159,7 @@ fn wrong_method(file: &File, letters: &[u8], tunes: &Tunes, call: usize) -> Opti
     requires is { letters.now ≡ letters_of file.now }
     requires known { call < length file.now.calls }
     requires tuned { IsTuned file.now tunes.now }
-    ensures { MatchOption result (FitsAll file.now tunes.now call) (IsFirstWrong (λ m. is_for file.now call m ≡ true → Fits file.now tunes.now call m) (length file.now.methods)) }
+    ensures { TellsFirst (Suits file.now tunes.now call) (length file.now.methods) result }
 {
     for method in 0..file.method_count() {
         if !suits(file, letters, tunes, call, method) {
@@ -171,7 +174,8 @@ fn wrong_length(file: &File, letters: &[u8], tunes: &Tunes) -> Option<(u64, u64)
     requires is { letters.now ≡ letters_of file.now }
     requires tuned { IsTuned file.now tunes.now }
     ensures { MatchOption result ((call : ℕ) → call < length file.now.calls → FitsAll file.now tunes.now call)
-        (λ p. IsFirstWrong (FitsAll file.now tunes.now) (length file.now.calls) p.0 × IsFirstWrong (λ m. is_for file.now p.0 m ≡ true → Fits file.now tunes.now p.0 m) (length file.now.methods) p.1) }
+        (λ p. IsFirstWrong (FitsAll file.now tunes.now) (length file.now.calls) p.0
+        × IsFirstWrong (Suits file.now tunes.now p.0) (length file.now.methods) p.1) }
 {
     for call in 0..file.call_count() {
         if let Some(method) = wrong_method(file, letters, tunes, call) {
@@ -186,7 +190,7 @@ fn share_no_method(file: &File, letters: &[u8], first: usize, second: usize) -> 
     requires is { letters.now ≡ letters_of file.now }
     requires one { first < length file.now.calls }
     requires other { second < length file.now.calls }
-    ensures { IsTrue result ↔ ((method : ℕ) → method < length file.now.methods → is_for file.now first method ≡ true → is_for file.now second method ≡ true → ⊥) }
+    ensures { IsTrue result ↔ ShareNoMethod file.now first second }
 {
     for method in 0..file.method_count() {
         if is_for(file, letters, first, method) && is_for(file, letters, second, method) {
@@ -214,7 +218,7 @@ fn are_apart(file: &File, letters: &[u8], first: usize, second: usize) -> bool
 fn clashing(file: &File, letters: &[u8], second: usize) -> Option<u64>
     requires is { letters.now ≡ letters_of file.now }
     requires known { second < length file.now.calls }
-    ensures { MatchOption result ((first : ℕ) → first < second → AreApart file.now first second) (IsFirstWrong (λ i. AreApart file.now i second) second) }
+    ensures { TellsFirst (λ i. AreApart file.now i second) second result }
 {
     for first in 0..second {
         if !are_apart(file, letters, first, second) {
@@ -227,8 +231,9 @@ fn clashing(file: &File, letters: &[u8], second: usize) -> Option<u64>
 // The first clash: the earlier call, and the later.
 fn clash(file: &File, letters: &[u8]) -> Option<(u64, u64)>
     requires is { letters.now ≡ letters_of file.now }
-    ensures { MatchOption result ((second : ℕ) → second < length file.now.calls → (first : ℕ) → first < second → AreApart file.now first second)
-        (λ p. IsFirstWrong (λ j. (i : ℕ) → i < j → AreApart file.now i j) (length file.now.calls) p.1 × IsFirstWrong (λ i. AreApart file.now i p.1) p.1 p.0) }
+    ensures { MatchOption result ((second : ℕ) → second < length file.now.calls → IsApart file.now second)
+        (λ p. IsFirstWrong (IsApart file.now) (length file.now.calls) p.1
+        × IsFirstWrong (λ i. AreApart file.now i p.1) p.1 p.0) }
 {
     for second in 0..file.call_count() {
         if let Some(first) = clashing(file, letters, second) {
@@ -242,7 +247,8 @@ fn clash(file: &File, letters: &[u8]) -> Option<(u64, u64)>
 pub fn check_calls(file: &File, letters: &[u8], tunes: &Tunes) -> Result<(), ProblemFault>
     requires is { letters.now ≡ letters_of file.now }
     requires tuned { IsTuned file.now tunes.now }
-    ensures { MatchResult result (λ _. CallsAreRight file.now tunes.now) (IsCallFault file.now tunes.now) }
+    ensures { (n : ℕ) → CallsSpell file.now n tunes.now →
+        MatchResult result (λ _. CallsPass file.now n tunes.now) (IsFileFault file.now) }
 {
     if let Some(call) = wrong_over(file) {
         return Err(ProblemFault::Over(call));

@@ -3,18 +3,6 @@
 use cr_model::KeyPath;
 use std::alloc::{AllocError, AllocFailed};
 
-/// A table of the file.
-#[derive(Clone, Copy, Drop)]
-pub enum Part {
-    Method,
-    Call,
-    Query,
-    Count,
-    Leads,
-    Rows,
-    Com,
-}
-
 /// The first key at fault, or want of memory.
 #[derive(Drop)]
 pub enum KeyFault {

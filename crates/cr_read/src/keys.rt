@@ -1,13 +1,19 @@
 //! The check of keys: the first one that is missing, unknown or of the wrong kind.
 
-ghost use Rattle.std.specs.Prelude.{◌≡◌, ℕ, Bool, true, false, cond, nat_eq, List, [], ◌∷◌, ◌++◌, map, flat_map, IfOk, string_bytes, codes, vec_len};
+ghost use Rattle.std.specs.Prelude.{◌≡◌, ℕ, Bool, true, false, cond, nat_eq, List, [], ◌∷◌, ◌++◌, map, flat_map};
+ghost use Rattle.std.specs.Prelude.{IfOk, string_bytes, codes};
 ghost use Rattle.std.specs.List.{list_any, list_all};
 ghost use Rattle.toml.specs.Data.{get_member};
 ghost use Rattle.toml.specs.View.{view, table_view};
-ghost use Rattle.cr_model.specs.Keys.{Kind, text, number, selection, is_among, all_differ, is_selection, is_right, key_fault, unknown_keys, table_faults, is_table, are_tables, item_path, items_faults, array_faults, part_faults, top_names, key_faults, members_in, text_at, method_keys, call_keys, query_keys, limited_keys, com_keys, stage_key, written_letters};
-ghost use Rattle.cr_read.specs.FirstKeys.{Checks, letters_in, keys_of, names_of, steps_faults, arrays_faults, asked_faults};
+ghost use Rattle.cr_model.specs.Keys.{is_among, all_differ, is_selection, has_kind, is_right, key_fault, unknown_keys};
+ghost use Rattle.cr_model.specs.Keys.{table_faults, is_table, are_tables, item_path, items_faults, array_faults};
+ghost use Rattle.cr_model.specs.Keys.{single_faults, part_faults, parts, top_names, stage_key, key_faults};
+ghost use Rattle.cr_model.specs.Keys.{members_in, text_at};
+ghost use Rattle.cr_model.specs.Keys.{written_letters};
+ghost use Rattle.cr_read.specs.FirstKeys.{Checks, letters_in, kind_of, key_of, part_of, known_faults};
 
-use crate::key_fault::{KeyFault, Part};
+use crate::key_fault::KeyFault;
+use crate::parts::{Key, Kind, PARTS, Part, STAGE, Shape};
 use crate::values::{found, items_at, items_of, text_found};
 use cr_model::KeyPath;
 use std::alloc::{AllocError, Global};
@@ -31,50 +37,6 @@ fn unless(alloc: Global, right: bool, path: &[u8], name: &str) -> Result<(), Key
     } else {
         Err(KeyFault::At(path_to(alloc, path, name)?))
     }
-}
-
-// Whether a text stands at a key, or nothing where it need not be there.
-fn has_text(table: &Value, name: &str, needed: bool) -> bool
-    ensures { result ≡ is_right (record { name = name.now; kind = text; needed = needed }) (get_member name.now (members_in (view table.now))) }
-{
-    match found(table, name) {
-        Some(value) => value.is_str(),
-        None => !needed,
-    }
-}
-
-// Whether an integer stands at a key, or nothing where it need not be there.
-fn has_number(table: &Value, name: &str, needed: bool) -> bool
-    ensures { result ≡ is_right (record { name = name.now; kind = number; needed = needed }) (get_member name.now (members_in (view table.now))) }
-{
-    match found(table, name) {
-        Some(value) => value.is_integer(),
-        None => !needed,
-    }
-}
-
-fn check_text(
-    alloc: Global,
-    path: &[u8],
-    table: &Value,
-    name: &str,
-    needed: bool,
-) -> Result<(), KeyFault>
-    ensures { Checks (key_fault path.now (members_in (view table.now)) (record { name = name.now; kind = text; needed = needed })) result }
-{
-    unless(alloc, has_text(table, name, needed), path, name)
-}
-
-fn check_number(
-    alloc: Global,
-    path: &[u8],
-    table: &Value,
-    name: &str,
-    needed: bool,
-) -> Result<(), KeyFault>
-    ensures { Checks (key_fault path.now (members_in (view table.now)) (record { name = name.now; kind = number; needed = needed })) result }
-{
-    unless(alloc, has_number(table, name, needed), path, name)
 }
 
 // The letter of a method, as it is written.
@@ -137,140 +99,90 @@ fn is_selection(methods: &[Value], text: &[u8]) -> bool
     !text.is_empty() && are_letters(methods, text) && all_differ(text)
 }
 
-fn has_selection(methods: &[Value], table: &Value, name: &str) -> bool
-    ensures { result ≡ is_right (record { name = name.now; kind = selection (letters_in methods.now); needed = false }) (get_member name.now (members_in (view table.now))) }
+// Whether a value may stand at a key of this kind.
+fn has_kind(methods: &[Value], kind: Kind, value: &Value) -> bool
+    ensures { result ≡ has_kind (kind_of (letters_in methods.now) kind) (view value.now) }
 {
-    match found(table, name) {
-        Some(value) => match value.as_str() {
+    match kind {
+        Kind::Text => value.is_str(),
+        Kind::Number => value.is_integer(),
+        Kind::Letters => match value.as_str() {
             Some(text) => is_selection(methods, text.as_bytes()),
             None => false,
         },
-        None => true,
     }
 }
 
-fn check_selection(
+// Whether what stands at a key of a table may stand there.
+fn is_right(methods: &[Value], key: &Key, table: &Value) -> bool
+    ensures { result ≡ is_right (key_of (letters_in methods.now) key.now)
+        (get_member key.now.name.now (members_in (view table.now))) }
+{
+    match found(table, key.name) {
+        Some(value) => has_kind(methods, key.kind, value),
+        None => !key.needed,
+    }
+}
+
+// Refuses what stands at a key, unless it may stand there.
+fn check_key(
     alloc: Global,
     methods: &[Value],
+    key: &Key,
     path: &[u8],
     table: &Value,
-    name: &str,
 ) -> Result<(), KeyFault>
-    ensures { Checks (key_fault path.now (members_in (view table.now)) (record { name = name.now; kind = selection (letters_in methods.now); needed = false })) result }
+    ensures { Checks (key_fault path.now (members_in (view table.now)) (key_of (letters_in methods.now) key.now)) result }
 {
-    unless(alloc, has_selection(methods, table, name), path, name)
-}
-
-fn check_method(alloc: Global, path: &[u8], table: &Value) -> Result<(), KeyFault>
-    ensures { Checks (flat_map (key_fault path.now (members_in (view table.now))) method_keys) result }
-{
-    check_text(alloc, path, table, "letter", true)?;
-    check_text(alloc, path, table, "notation", true)?;
-    check_text(alloc, path, table, "name", false)
-}
-
-fn check_call(alloc: Global, methods: &[Value], path: &[u8], table: &Value) -> Result<(), KeyFault>
-    ensures { Checks (flat_map (key_fault path.now (members_in (view table.now))) (call_keys (letters_in methods.now))) result }
-{
-    check_text(alloc, path, table, "mark", true)?;
-    check_text(alloc, path, table, "notation", true)?;
-    check_number(alloc, path, table, "over", false)?;
-    check_selection(alloc, methods, path, table, "methods")
-}
-
-fn check_query(alloc: Global, path: &[u8], table: &Value) -> Result<(), KeyFault>
-    ensures { Checks (flat_map (key_fault path.now (members_in (view table.now))) query_keys) result }
-{
-    check_number(alloc, path, table, "min", true)?;
-    check_number(alloc, path, table, "max", true)?;
-    check_number(alloc, path, table, "parts", false)
-}
-
-fn check_com(alloc: Global, path: &[u8], table: &Value) -> Result<(), KeyFault>
-    ensures { Checks (flat_map (key_fault path.now (members_in (view table.now))) com_keys) result }
-{
-    check_number(alloc, path, table, "min", false)?;
-    check_number(alloc, path, table, "max", false)
-}
-
-fn check_limited(alloc: Global, path: &[u8], table: &Value, name: &str) -> Result<(), KeyFault>
-    ensures { Checks (flat_map (key_fault path.now (members_in (view table.now))) (limited_keys name.now)) result }
-{
-    check_text(alloc, path, table, name, true)?;
-    check_com(alloc, path, table)
+    unless(alloc, is_right(methods, key, table), path, key.name)
 }
 
 // The known keys of a table, in their order.
 fn check_known(
     alloc: Global,
     methods: &[Value],
-    kind: Part,
+    keys: &[Key],
     path: &[u8],
     table: &Value,
 ) -> Result<(), KeyFault>
-    ensures { Checks (flat_map (key_fault path.now (members_in (view table.now))) (keys_of kind (letters_in methods.now))) result }
+    ensures { Checks (known_faults path.now (letters_in methods.now) keys.now (members_in (view table.now))) result }
 {
-    match kind {
-        Part::Method => check_method(alloc, path, table),
-        Part::Call => check_call(alloc, methods, path, table),
-        Part::Query => check_query(alloc, path, table),
-        Part::Count => check_limited(alloc, path, table, "mark"),
-        Part::Leads => check_limited(alloc, path, table, "letter"),
-        Part::Rows => check_limited(alloc, path, table, "pattern"),
-        Part::Com => check_com(alloc, path, table),
+    for key in keys {
+        check_key(alloc, methods, key, path, table)?;
     }
+    Ok(())
 }
 
-// Whether a name is one of these.
-fn is_known(names: &[&str], name: &str) -> bool
-    ensures { result ≡ is_among (map (λ known. known.now) names.now) name.now }
+// Whether a name is that of one of these keys.
+fn is_key(keys: &[Key], name: &str) -> bool
+    ensures { result ≡ is_among (map (λ key. key.name.now) keys.now) name.now }
 {
-    for known in names {
-        if name == *known {
+    for key in keys {
+        if name == key.name {
             return true;
         }
     }
     false
 }
 
-// Refuses the first key of a table that has none of the names.
-fn check_unknown_of(
-    alloc: Global,
-    names: &[&str],
-    path: &[u8],
-    table: &Table,
-) -> Result<(), KeyFault>
-    ensures { Checks (unknown_keys path.now (map (λ known. known.now) names.now) (table_view table.now)) result }
+// Refuses the first key of a table that is none of these.
+fn check_unknown_of(alloc: Global, keys: &[Key], path: &[u8], table: &Table) -> Result<(), KeyFault>
+    ensures { Checks (unknown_keys path.now (map (λ key. key.name.now) keys.now) (table_view table.now)) result }
 {
     for (key, _) in table {
-        if !is_known(names, key.as_str()) {
+        if !is_key(keys, key.as_str()) {
             return Err(KeyFault::At(path_to(alloc, path, key.as_str())?));
         }
     }
     Ok(())
 }
 
-fn check_unknown(alloc: Global, names: &[&str], path: &[u8], table: &Value) -> Result<(), KeyFault>
-    ensures { Checks (unknown_keys path.now (map (λ known. known.now) names.now) (members_in (view table.now))) result }
+fn check_unknown(alloc: Global, keys: &[Key], path: &[u8], table: &Value) -> Result<(), KeyFault>
+    ensures { Checks (unknown_keys path.now (map (λ key. key.name.now) keys.now) (members_in (view table.now))) result }
 {
     match table.as_table() {
-        Some(fields) => check_unknown_of(alloc, names, path, fields),
+        Some(fields) => check_unknown_of(alloc, keys, path, fields),
         None => Ok(()),
-    }
-}
-
-// The unknown keys of a table.
-fn check_others(alloc: Global, kind: Part, path: &[u8], table: &Value) -> Result<(), KeyFault>
-    ensures { Checks (unknown_keys path.now (names_of kind) (members_in (view table.now))) result }
-{
-    match kind {
-        Part::Method => check_unknown(alloc, &["letter", "notation", "name"], path, table),
-        Part::Call => check_unknown(alloc, &["mark", "notation", "over", "methods"], path, table),
-        Part::Query => check_unknown(alloc, &["min", "max", "parts"], path, table),
-        Part::Count => check_unknown(alloc, &["mark", "min", "max"], path, table),
-        Part::Leads => check_unknown(alloc, &["letter", "min", "max"], path, table),
-        Part::Rows => check_unknown(alloc, &["pattern", "min", "max"], path, table),
-        Part::Com => check_unknown(alloc, &["min", "max"], path, table),
     }
 }
 
@@ -278,14 +190,15 @@ fn check_others(alloc: Global, kind: Part, path: &[u8], table: &Value) -> Result
 fn check_table(
     alloc: Global,
     methods: &[Value],
-    kind: Part,
+    keys: &[Key],
     path: &[u8],
     table: &Value,
 ) -> Result<(), KeyFault>
-    ensures { Checks (table_faults path.now (keys_of kind (letters_in methods.now)) (members_in (view table.now))) result }
+    ensures { Checks (table_faults path.now (map (key_of (letters_in methods.now)) keys.now)
+        (members_in (view table.now))) result }
 {
-    check_known(alloc, methods, kind, path, table)?;
-    check_others(alloc, kind, path, table)
+    check_known(alloc, methods, keys, path, table)?;
+    check_unknown(alloc, keys, path, table)
 }
 
 // The path of what stands in an item of an array.
@@ -299,15 +212,15 @@ fn item_path(alloc: Global, name: &str, index: usize) -> Result<String, AllocErr
 fn check_items(
     alloc: Global,
     methods: &[Value],
-    kind: Part,
-    name: &str,
+    part: &Part,
     items: &[Value],
 ) -> Result<(), KeyFault>
-    ensures { Checks (items_faults name.now (keys_of kind (letters_in methods.now)) 0 (map view items.now)) result }
+    ensures { Checks (items_faults part.now.name.now (map (key_of (letters_in methods.now)) part.now.keys.now)
+        0 (map view items.now)) result }
 {
     for index in 0..items.len() {
-        let path = item_path(alloc, name, index)?;
-        check_table(alloc, methods, kind, path.as_bytes(), &items[index])?;
+        let path = item_path(alloc, part.name, index)?;
+        check_table(alloc, methods, part.keys, path.as_bytes(), &items[index])?;
     }
     Ok(())
 }
@@ -331,26 +244,27 @@ fn are_tables(items: &[Value], least: usize, most: usize) -> bool
     least <= items.len() && items.len() <= most && all_tables(items)
 }
 
-#[tactic(auto, using(crate::proofs::Arrays::array_of, crate::proofs::Arrays::no_array))]
 // An array of a number of tables from `least` to `most`. It may be absent where it may have no items.
-fn check_array(
+#[tactic(auto, using(crate::proofs::Arrays::array_of, crate::proofs::Arrays::no_array))]
+fn check_several(
     alloc: Global,
+    methods: &[Value],
     root: &Value,
-    kind: Part,
-    name: &str,
+    part: &Part,
     least: usize,
     most: usize,
 ) -> Result<(), KeyFault>
-    ensures { Checks (array_faults name.now least most (keys_of kind (written_letters (members_in (view root.now)))) (get_member name.now (members_in (view root.now)))) result }
+    ensures { Checks (array_faults part.now.name.now least most (map (key_of (letters_in methods.now)) part.now.keys.now)
+        (get_member part.now.name.now (members_in (view root.now)))) result }
 {
-    let Some(value) = found(root, name) else {
-        return unless(alloc, least == 0, &[], name);
+    let Some(value) = found(root, part.name) else {
+        return unless(alloc, least == 0, &[], part.name);
     };
     let Some(items) = items_of(value) else {
-        return unless(alloc, false, &[], name);
+        return unless(alloc, false, &[], part.name);
     };
-    unless(alloc, are_tables(items, least, most), &[], name)?;
-    check_items(alloc, items_at(root, "method"), kind, name, items)
+    unless(alloc, are_tables(items, least, most), &[], part.name)?;
+    check_items(alloc, methods, part, items)
 }
 
 // The path of what stands in a table of the top.
@@ -361,60 +275,109 @@ fn part_path(alloc: Global, name: &str) -> Result<String, AllocError>
 }
 
 // A table of the top.
-fn check_part(
+fn check_single(
     alloc: Global,
+    methods: &[Value],
     root: &Value,
-    kind: Part,
-    name: &str,
+    part: &Part,
     needed: bool,
 ) -> Result<(), KeyFault>
-    ensures { Checks (part_faults name.now needed (keys_of kind []) (get_member name.now (members_in (view root.now)))) result }
+    ensures { Checks (single_faults part.now.name.now needed (map (key_of (letters_in methods.now)) part.now.keys.now)
+        (get_member part.now.name.now (members_in (view root.now)))) result }
 {
-    let Some(value) = found(root, name) else {
-        return unless(alloc, !needed, &[], name);
+    let Some(value) = found(root, part.name) else {
+        return unless(alloc, !needed, &[], part.name);
     };
-    unless(alloc, value.is_table(), &[], name)?;
-    let path = part_path(alloc, name)?;
-    check_table(alloc, &[], kind, path.as_bytes(), value)
+    unless(alloc, value.is_table(), &[], part.name)?;
+    let path = part_path(alloc, part.name)?;
+    check_table(alloc, methods, part.keys, path.as_bytes(), value)
 }
 
-// The arrays of limits.
-fn check_arrays(alloc: Global, root: &Value) -> Result<(), KeyFault>
-    ensures { Checks (arrays_faults (members_in (view root.now))) result }
+// A part of the file.
+fn check_part(alloc: Global, methods: &[Value], root: &Value, part: &Part) -> Result<(), KeyFault>
+    ensures { Checks (part_faults (members_in (view root.now)) (part_of (letters_in methods.now) part.now)) result }
 {
-    check_array(alloc, root, Part::Count, "count", 0, 16)?;
-    check_array(alloc, root, Part::Leads, "leads", 0, 16)?;
-    check_array(alloc, root, Part::Rows, "rows", 0, 32)
+    match part.shape {
+        Shape::Several(least, most) => check_several(alloc, methods, root, part, least, most),
+        Shape::Single(needed) => check_single(alloc, methods, root, part, needed),
+    }
 }
 
-// The stage, the methods and the calls.
-fn check_steps(alloc: Global, root: &Value) -> Result<(), KeyFault>
-    ensures { Checks (steps_faults (members_in (view root.now))) result }
+// The parts of the file, in their order.
+fn check_parts(
+    alloc: Global,
+    methods: &[Value],
+    root: &Value,
+    parts: &[Part],
+) -> Result<(), KeyFault>
+    ensures { Checks (flat_map (part_faults (members_in (view root.now)))
+        (map (part_of (letters_in methods.now)) parts.now)) result }
 {
-    check_number(alloc, &[], root, "stage", true)?;
-    check_array(alloc, root, Part::Method, "method", 1, 8)?;
-    check_array(alloc, root, Part::Call, "call", 0, 23)
+    for part in parts {
+        check_part(alloc, methods, root, part)?;
+    }
+    Ok(())
 }
 
-// The query and the limits.
-fn check_asked(alloc: Global, root: &Value) -> Result<(), KeyFault>
-    ensures { Checks (asked_faults (members_in (view root.now))) result }
+// Whether a name is the stage's, or that of one of these parts.
+fn is_of_top(parts: &[Part], name: &str) -> bool
+    ensures { result ≡ is_among (codes "stage" ∷ map (λ part. part.name.now) parts.now) name.now }
 {
-    check_part(alloc, root, Part::Query, "query", true)?;
-    check_arrays(alloc, root)?;
-    check_part(alloc, root, Part::Com, "com", false)
+    if name == STAGE.name {
+        return true;
+    }
+    for part in parts {
+        if name == part.name {
+            return true;
+        }
+    }
+    false
+}
+
+// Refuses the first key of the top that is none of these.
+fn check_top_of(alloc: Global, parts: &[Part], table: &Table) -> Result<(), KeyFault>
+    ensures { Checks (unknown_keys [] (codes "stage" ∷ map (λ part. part.name.now) parts.now)
+        (table_view table.now)) result }
+{
+    for (key, _) in table {
+        if !is_of_top(parts, key.as_str()) {
+            return Err(KeyFault::At(path_to(alloc, &[], key.as_str())?));
+        }
+    }
+    Ok(())
+}
+
+// The unknown keys of the top.
+fn check_top(alloc: Global, root: &Value) -> Result<(), KeyFault>
+    ensures { Checks (unknown_keys [] top_names (members_in (view root.now))) result }
+{
+    match root.as_table() {
+        Some(table) => check_top_of(alloc, PARTS, table),
+        None => Ok(()),
+    }
+}
+
+// The stage.
+fn check_stage(alloc: Global, root: &Value) -> Result<(), KeyFault>
+    ensures { Checks (key_fault [] (members_in (view root.now)) stage_key) result }
+{
+    check_key(alloc, &[], &STAGE, &[], root)
+}
+
+// All parts of the file.
+fn check_all_parts(alloc: Global, root: &Value) -> Result<(), KeyFault>
+    ensures { Checks (flat_map (part_faults (members_in (view root.now)))
+        (parts (written_letters (members_in (view root.now))))) result }
+{
+    check_parts(alloc, items_at(root, "method"), root, PARTS)
 }
 
 /// Checks every key of a file, in their order, and the unknown keys of the top last.
-#[tactic(auto, using(crate::proofs::AllKeys::all_keys))]
+#[tactic(auto, using(crate::proofs::KeyTables::all_keys))]
 pub fn check_keys(alloc: Global, root: &Value) -> Result<(), KeyFault>
     ensures { Checks (key_faults (members_in (view root.now))) result }
 {
-    check_steps(alloc, root)?;
-    check_asked(alloc, root)?;
-    check_unknown(alloc, TOP, &[], root)
+    check_stage(alloc, root)?;
+    check_all_parts(alloc, root)?;
+    check_top(alloc, root)
 }
-
-const TOP: &[&str] = &[
-    "stage", "method", "call", "query", "count", "leads", "rows", "com",
-];

@@ -1,8 +1,9 @@
 //! The leads of a problem file, in the order of the steps.
 
 ghost use Rattle.std.specs.Prelude.{◌≡◌, ◌<◌, ◌≤◌, ◌++◌, nat_eq, ◌&&◌, length, IfOk, IfSome};
-ghost use Rattle.cr_model.specs.ProblemFiles.{letters_of, mark_at, is_for, call_with, called_tune, called_lead, leads_of_method, leads_of, lead_from, tune_at};
-ghost use Rattle.cr_model.specs.Sound.{plain};
+ghost use Rattle.cr_model.specs.ProblemFiles.{letters_of, mark_at, is_for, call_with, called_tune, called_lead};
+ghost use Rattle.cr_model.specs.ProblemFiles.{leads_of_method, leads_of, lead_from, tune_at};
+ghost use Rattle.cr_model.specs.Right.{plain};
 ghost use Rattle.cr_read.specs.Reading.{IsTuned};
 
 use crate::calls::{changes_of, is_for, mark_of, replaced};
@@ -116,7 +117,8 @@ fn add_called(
     requires few { method < 256 }
     requires there { method < length file.now.methods }
     requires tuned { IsTuned file.now tunes.now }
-    ensures { IfOk result (λ _. leads.new.items ≡ leads.old.items ++ called_lead file.now tunes.now method mark (call_with file.now method mark)) }
+    ensures { IfOk result (λ _. leads.new.items ≡ leads.old.items
+        ++ called_lead file.now tunes.now method mark (call_with file.now method mark)) }
 {
     if let Some(call) = call_with(file, letters, method, mark) {
         leads.push(called_lead(alloc, file, tunes, call, method, mark)?)?;

@@ -1,8 +1,8 @@
 //! The checks of the stage and of the letters.
 
 ghost use Rattle.std.specs.Prelude.{◌≡◌, ◌≢◌, ℕ, ◌<◌, ◌↔◌, length, get_or, map, IsTrue, IfOk, MatchOption, MatchResult};
-ghost use Rattle.cr_model.specs.Sound.{LetterIsRight};
-ghost use Rattle.cr_model.specs.Faults.{IsFirstWrong};
+ghost use Rattle.cr_model.specs.Right.{LetterIsRight};
+ghost use Rattle.cr_model.specs.Checks.{TellsFirst};
 ghost use Rattle.cr_model.specs.ProblemFiles.{byte_of, letters_of, StagePasses, LettersPass, IsFileFault};
 
 use crate::file_parts::File;
@@ -26,7 +26,7 @@ pub fn letters_of(alloc: Global, file: &File) -> Result<Vec<u8>, AllocError>
 {
     let mut letters = Vec::new(alloc);
     for method in &file.methods {
-        letters.push(byte_of(method.letter.as_str()))?;
+        letters.push(byte_of(method.letter))?;
     }
     Ok(letters)
 }
@@ -65,7 +65,7 @@ fn letter_is_right(letters: &[u8], index: usize) -> bool
 
 // The first letter that is wrong.
 fn wrong_letter(letters: &[u8]) -> Option<u64>
-    ensures { MatchOption result ((i : ℕ) → i < length letters.now → LetterIsRight letters.now i) (IsFirstWrong (LetterIsRight letters.now) (length letters.now)) }
+    ensures { TellsFirst (LetterIsRight letters.now) (length letters.now) result }
 {
     for index in 0..letters.len() {
         if !letter_is_right(letters, index) {

@@ -9,6 +9,7 @@ mod keys;
 mod laws;
 mod leads;
 mod letters;
+mod parts;
 mod problem;
 mod query;
 mod reader;

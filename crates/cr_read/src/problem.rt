@@ -1,12 +1,9 @@
 //! The problem that the values of a file make.
 
 ghost use Rattle.std.specs.Prelude.{◌≡◌, ◌≤◌, length, MatchResult};
-ghost use Rattle.cr_model.specs.Problems.{ProblemParts};
 ghost use Rattle.cr_model.specs.Sound.{IsSound};
-ghost use Rattle.cr_model.specs.Faults.{IsPartFault};
-ghost use Rattle.cr_model.specs.Files.{FileParts};
-ghost use Rattle.cr_model.specs.ProblemFiles.{Makes, IsFileFault, CallsPass, CallsSpell, LettersPass, letters_of, parts_of};
-ghost use Rattle.cr_read.specs.Reading.{Refused, IsLater, IsTuned};
+ghost use Rattle.cr_model.specs.ProblemFiles.{Makes, CallsPass, letters_of};
+ghost use Rattle.cr_read.specs.Reading.{Refused, IsLater, file_fault};
 
 use crate::calls::check_calls;
 use crate::file_parts::File;
@@ -21,7 +18,7 @@ use std::alloc::Global;
 // The fault of a file whose values make parts with this fault.
 fn fault_of(why: PartFault) -> ProblemFault
     requires { IsLater why }
-    ensures { (file : FileParts) (p : ProblemParts) → Makes file p → IsPartFault p why → IsFileFault file result }
+    ensures { result ≡ file_fault why }
 {
     match why {
         PartFault::Letters(_) | PartFault::Leads(_) => unreachable!(),

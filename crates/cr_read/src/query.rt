@@ -16,7 +16,7 @@ fn counts_of(alloc: Global, limits: &[Limited]) -> Result<Vec<Count>, AllocError
     let mut counts = Vec::new(alloc);
     for limited in limits {
         counts.push(Count {
-            mark: byte_of(limited.text.as_str()),
+            mark: byte_of(limited.text),
             min: limited.min,
             max: limited.max,
         })?;
@@ -30,7 +30,7 @@ fn method_counts_of(alloc: Global, limits: &[Limited]) -> Result<Vec<MethodCount
     let mut counts = Vec::new(alloc);
     for limited in limits {
         counts.push(MethodCount {
-            letter: byte_of(limited.text.as_str()),
+            letter: byte_of(limited.text),
             min: limited.min,
             max: limited.max,
         })?;

@@ -3,7 +3,7 @@
 ghost use Rattle.std.specs.Prelude.{◌≡◌, ◌≢◌, ◌⊎◌, [], Ok, Err, MatchResult, IfOk, IfErr};
 ghost use Rattle.toml.specs.View.{view};
 ghost use Rattle.cr_model.specs.Keys.{key_faults, members_in};
-ghost use Rattle.cr_model.specs.Files.{Reads, IsFile};
+ghost use Rattle.cr_model.specs.Files.{Reads};
 ghost use Rattle.cr_model.specs.declared.file_fault.ProblemFault.{ProblemFault};
 ghost use Rattle.cr_model.specs.declared.file_fault.ProblemFault.TheVariants as fault;
 ghost use Rattle.cr_model.specs.Problems.{ProblemParts};
@@ -11,7 +11,6 @@ ghost use Rattle.cr_model.specs.ProblemFiles.{ProblemFile, FirstProblemFault};
 ghost use Rattle.cr_read.specs.Reading.{NotRead, NotFile, NotProblem};
 
 use crate::file::file_of;
-use crate::file_parts::File;
 use crate::key_fault::KeyFault;
 use crate::keys::check_keys;
 use crate::laws::bytes_have_one_answer;
@@ -38,7 +37,8 @@ fn table_of(alloc: Global, bytes: &[u8]) -> Result<Value, ProblemFault>
 
 // The table, if each of its keys is right.
 fn checked(alloc: Global, bytes: &[u8]) -> Result<Value, ProblemFault>
-    ensures { MatchResult result (λ root. Reads bytes.now (members_in (view root)) × (key_faults (members_in (view root)) ≡ [])) (NotFile bytes.now) }
+    ensures { MatchResult result (λ root. Reads bytes.now (members_in (view root))
+        × (key_faults (members_in (view root)) ≡ [])) (NotFile bytes.now) }
 {
     let root = table_of(alloc, bytes)?;
     match check_keys(alloc, &root) {
@@ -48,19 +48,12 @@ fn checked(alloc: Global, bytes: &[u8]) -> Result<Value, ProblemFault>
     }
 }
 
-// What the bytes say.
-fn read_file(alloc: Global, bytes: &[u8]) -> Result<File, ProblemFault>
-    ensures { MatchResult result (IsFile bytes.now) (NotFile bytes.now) }
-{
-    let root = checked(alloc, bytes)?;
-    Ok(file_of(alloc, &root)?)
-}
-
 // The problem of a file, or the first check that does not hold.
 fn read_bytes(alloc: Global, bytes: &[u8]) -> Result<Problem, ProblemFault>
     ensures { MatchResult result (ProblemFile bytes.now) (NotProblem bytes.now) }
 {
-    let file = read_file(alloc, bytes)?;
+    let root = checked(alloc, bytes)?;
+    let file = file_of(alloc, &root)?;
     problem_of(alloc, &file)
 }
 
@@ -73,7 +66,8 @@ pub fn read_problem(alloc: Global, bytes: &[u8]) -> Result<Problem, ProblemFault
     ensures problem { IfOk result (λ p. ProblemFile bytes.now p) }
     ensures fault { IfErr result (λ why. why ≢ fault.NoMemory → FirstProblemFault bytes.now why) }
     ensures accepts { (p : ProblemParts) → ProblemFile bytes.now p → (result ≡ Ok p) ⊎ (result ≡ Err fault.NoMemory) }
-    ensures refuses { (why : ProblemFault) → FirstProblemFault bytes.now why → (result ≡ Err why) ⊎ (result ≡ Err fault.NoMemory) }
+    ensures refuses { (why : ProblemFault) → FirstProblemFault bytes.now why →
+        (result ≡ Err why) ⊎ (result ≡ Err fault.NoMemory) }
 {
     // By this law nothing else is right of bytes that the reader has answered.
     bytes_have_one_answer();

@@ -1,5 +1,6 @@
 use super::*;
-use cr_model::{Problem, ProblemFault};
+use cr_model::{Cell, Problem, ProblemFault, Query};
+use cr_row::{Change, symbol};
 use std::alloc::{AllocError, Global};
 use std::test::*;
 
@@ -15,6 +16,12 @@ const QUERY: &str = "[query]\nmin = 1\nmax = 120\n";
 
 const MINIMUS: &str =
     "stage = 4\n[[method]]\nletter = \"A\"\nnotation = \"x14x14,12\"\n[query]\nmin = 1\nmax = 24\n";
+
+// Plain Bob Doubles with bobs, and that with all limits.
+const BOBS: &str = "Ap 5.1.5.1.5.1.5.1.5.125 Ab 5.1.5.1.5.1.5.1.5.145 1 120 1";
+
+const COUNTED: &str =
+    "Ap 5.1.5.1.5.1.5.1.5.125 Ab 5.1.5.1.5.1.5.1.5.145 1 120 1 b 0 12000 A 1 12000 *45 0 3 14?53 0 12000 com 0 12000";
 
 // The pieces of a file, one after another.
 fn joined(alloc: Global, pieces: &[&str]) -> Result<String, AllocError> {
@@ -36,19 +43,87 @@ fn lettered(alloc: Global, letters: &str, before: &str, after: &str) -> Result<S
     Ok(text)
 }
 
-// The letter, mark and number of changes of each lead, and the limits on the whole.
-fn shown(alloc: Global, problem: &Problem) -> Result<String, AllocError> {
-    let mut text = String::new(alloc);
+// The places of each change, or x, with dots between.
+fn push_changes(text: &mut String, changes: &[Change]) -> Result<(), AllocError> {
+    let mut dot = "";
+    for change in changes {
+        text.push_str(dot)?;
+        dot = ".";
+        let start = text.len();
+        for place in 1..change.stage().number() + 1 {
+            if change.makes(place) {
+                text.push(char::from(symbol(place)))?;
+            }
+        }
+        if text.len() == start {
+            text.push('x')?;
+        }
+    }
+    Ok(())
+}
+
+// The cells, each bell as its number.
+fn push_cells(alloc: Global, text: &mut String, cells: &[Cell]) -> Result<(), AllocError> {
+    for cell in cells {
+        match cell {
+            Cell::Bell(bell) => text.push_str(format!(in alloc; "{bell}")?.as_str())?,
+            Cell::Any => text.push('?')?,
+            Cell::Run => text.push('*')?,
+        }
+    }
+    Ok(())
+}
+
+// Two limits, with a space before each.
+fn push_limits(alloc: Global, text: &mut String, min: i64, max: i64) -> Result<(), AllocError> {
+    text.push_str(format!(in alloc; " {min} {max}")?.as_str())
+}
+
+// The letter, the mark and the changes of each lead.
+fn push_leads(text: &mut String, problem: &Problem) -> Result<(), AllocError> {
     for lead in problem.leads() {
         match problem.letters().get(usize::from(lead.step.method)) {
             Some(letter) => text.push(char::from(*letter))?,
             None => text.push('?')?,
         }
         text.push(char::from(lead.step.mark))?;
-        text.push_str(format!(in alloc; "{} ", lead.changes.len())?.as_str())?;
+        text.push(' ')?;
+        push_changes(text, &lead.changes)?;
+        text.push(' ')?;
     }
-    let query = problem.query();
+    Ok(())
+}
+
+// The lengths and the parts, then each count, method count and pattern, then the limits on changes of method.
+fn push_query(alloc: Global, text: &mut String, query: &Query) -> Result<(), AllocError> {
     text.push_str(format!(in alloc; "{} {} {}", query.min, query.max, query.parts)?.as_str())?;
+    for count in &query.counts {
+        text.push(' ')?;
+        text.push(char::from(count.mark))?;
+        push_limits(alloc, text, count.min, count.max)?;
+    }
+    for count in &query.method_counts {
+        text.push(' ')?;
+        text.push(char::from(count.letter))?;
+        push_limits(alloc, text, count.min, count.max)?;
+    }
+    for pattern in &query.patterns {
+        text.push(' ')?;
+        push_cells(alloc, text, &pattern.cells)?;
+        push_limits(alloc, text, pattern.min, pattern.max)?;
+    }
+    if let Some(limits) = &query.com {
+        text.push_str(" com")?;
+        push_limits(alloc, text, limits.min, limits.max)?;
+    }
+    Ok(())
+}
+
+// All of a problem but its stage.
+fn shown(alloc: Global, problem: &Problem) -> Result<String, AllocError> {
+    let mut text = String::new(alloc);
+    push_leads(&mut text, problem)?;
+    push_query(alloc, &mut text, problem.query())?;
     Ok(text)
 }
 
@@ -64,14 +139,9 @@ fn told(alloc: Global, bytes: &[u8]) -> Result<String, AllocError> {
     }
 }
 
-fn told_of(alloc: Global, pieces: &[&str]) -> Result<String, AllocError> {
-    let text = joined(alloc, pieces)?;
-    told(alloc, text.as_bytes())
-}
-
 // Files of a stage, methods, calls and the rest, and what they are read as.
 const FILES: [([&str; 4], &str); 29] = [
-    ([STAGE, METHOD, CALL, QUERY], "Ap10 Ab10 1 120 1"),
+    ([STAGE, METHOD, CALL, QUERY], BOBS),
     (["stage =\n", METHOD, CALL, QUERY], "NotToml"),
     ([STAGE, METHOD, CALL, ""], "Key(query)"),
     (
@@ -247,9 +317,10 @@ const FILES: [([&str; 4], &str); 29] = [
 
 #[test]
 fn files(rt: HostRuntime) -> Result<(), Fail> {
-    for (pieces, want) in FILES {
-        let found = told_of(rt.alloc(), pieces.as_slice())?;
-        assert_eq!(rt; found.as_str(), want);
+    for (pieces, want) in &FILES {
+        let text = joined(rt.alloc(), pieces)?;
+        let found = told(rt.alloc(), text.as_bytes())?;
+        assert_eq!(rt; found.as_str(), *want, "reading {text}");
     }
     Ok(())
 }
@@ -312,7 +383,7 @@ const MORE: [([&str; 4], &str); 22] = [
             CALL,
             "",
         ],
-        "Ap10 Ab10 1 120 1",
+        BOBS,
     ),
     (
         [
@@ -321,7 +392,7 @@ const MORE: [([&str; 4], &str); 22] = [
             CALL,
             "",
         ],
-        "Ap10 Ab10 1 120 1",
+        BOBS,
     ),
     (
         [
@@ -330,7 +401,7 @@ const MORE: [([&str; 4], &str); 22] = [
             CALL,
             QUERY,
         ],
-        "Ap10 Ab10 1 120 1",
+        BOBS,
     ),
     (["", "", "", ""], "Key(stage)"),
     (
@@ -340,10 +411,10 @@ const MORE: [([&str; 4], &str); 22] = [
             CALL,
             "[query]\r\nmin = 1\r\nmax = 120\r\n",
         ],
-        "Ap10 Ab10 1 120 1",
+        BOBS,
     ),
     (["stage = 5\u{0}\n", METHOD, CALL, QUERY], "NotToml"),
-    ([MINIMUS, "", "", ""], "Ap8 1 24 1"),
+    ([MINIMUS, "", "", ""], "Ap x.14.x.14.x.14.x.12 1 24 1"),
     (
         [
             STAGE,
@@ -351,7 +422,7 @@ const MORE: [([&str; 4], &str); 22] = [
             "",
             "[query]\nmin = 1\nmax = 30\n",
         ],
-        "Ap10 1 30 1",
+        "Ap 3.1.5.1.5.1.5.1.5.1 1 30 1",
     ),
     (
         [
@@ -360,7 +431,7 @@ const MORE: [([&str; 4], &str); 22] = [
             "",
             "",
         ],
-        "Ap8 Ae4 1 24 1",
+        "Ap x.14.x.14.x.14.x.12 Ae x.14.x.14 1 24 1",
     ),
     (
         [
@@ -369,7 +440,7 @@ const MORE: [([&str; 4], &str); 22] = [
             GRANDSIRE,
             "[[call]]\nmark = \"s\"\nnotation = \"3.123\"\nmethods = \"B\"\n[[call]]\nmark = \"b\"\nnotation = \"145\"\nmethods = \"A\"\n[[call]]\nmark = \"b\"\nnotation = \"3.1\"\nmethods = \"B\"\n[query]\nmin = 1\nmax = 120\nparts = 2\n",
         ],
-        "Ap10 Ab10 Bp10 Bb10 Bs10 1 120 2",
+        "Ap 5.1.5.1.5.1.5.1.5.125 Ab 5.1.5.1.5.1.5.1.5.145 Bp 3.1.5.1.5.1.5.1.5.1 Bb 3.1.5.1.5.1.5.1.3.1 Bs 3.1.5.1.5.1.5.1.3.123 1 120 2",
     ),
     (
         [
@@ -378,7 +449,7 @@ const MORE: [([&str; 4], &str); 22] = [
             GRANDSIRE,
             "[[call]]\nmark = \"z\"\nnotation = \"145\"\n[[call]]\nmark = \"a\"\nnotation = \"145\"\nover = 0\n[query]\nmin = 1\nmax = 120\n",
         ],
-        "Ap10 Aa11 Az10 Bp10 Ba11 Bz10 1 120 1",
+        "Ap 5.1.5.1.5.1.5.1.5.125 Aa 5.1.5.1.5.1.5.1.5.125.145 Az 5.1.5.1.5.1.5.1.5.145 Bp 3.1.5.1.5.1.5.1.5.1 Ba 3.1.5.1.5.1.5.1.5.1.145 Bz 3.1.5.1.5.1.5.1.5.145 1 120 1",
     ),
     (
         [
@@ -387,7 +458,7 @@ const MORE: [([&str; 4], &str); 22] = [
             CALL,
             "[query]\nmin = 1\nmax = 120\n[[count]]\nmark = \"b\"\n[[leads]]\nletter = \"A\"\nmin = 1\n[[rows]]\npattern = \"*45\"\nmax = 3\n[[rows]]\npattern = \"14?53\"\n[com]\n",
         ],
-        "Ap10 Ab10 1 120 1",
+        COUNTED,
     ),
     (
         [
@@ -411,9 +482,10 @@ const MORE: [([&str; 4], &str); 22] = [
 
 #[test]
 fn more_files(rt: HostRuntime) -> Result<(), Fail> {
-    for (pieces, want) in MORE {
-        let found = told_of(rt.alloc(), pieces.as_slice())?;
-        assert_eq!(rt; found.as_str(), want);
+    for (pieces, want) in &MORE {
+        let text = joined(rt.alloc(), pieces)?;
+        let found = told(rt.alloc(), text.as_bytes())?;
+        assert_eq!(rt; found.as_str(), *want, "reading {text}");
     }
     Ok(())
 }
@@ -451,8 +523,9 @@ fn many(rt: HostRuntime) -> Result<(), Fail> {
         ([STAGE, nine.as_str(), CALL, QUERY], "Key(method)"),
         ([STAGE, METHOD, many.as_str(), QUERY], "Key(call)"),
     ] {
-        let found = told_of(alloc, pieces.as_slice())?;
-        assert_eq!(rt; found.as_str(), want);
+        let text = joined(alloc, &pieces)?;
+        let found = told(alloc, text.as_bytes())?;
+        assert_eq!(rt; found.as_str(), want, "reading {text}");
     }
     Ok(())
 }

@@ -48,7 +48,8 @@ impl Model for Tunes {
 
 // The changes of a notation.
 fn tune_of(alloc: Global, stage: Stage, text: &str, whose: Whose) -> Result<Tune, ProblemFault>
-    ensures { MatchResult result (Spells stage text.now) (λ why. (why ≡ fault.NoMemory) ⊎ ((first : NotationFault) × (why ≡ fault.Notation whose first) × FirstFault stage text.now first)) }
+    ensures { MatchResult result (Spells stage text.now) (λ why. (why ≡ fault.NoMemory)
+        ⊎ ((first : NotationFault) × (why ≡ fault.Notation whose first) × FirstFault stage text.now first)) }
 {
     match read_notation(alloc, stage, text) {
         Ok(changes) => Ok(Tune { changes }),
@@ -59,22 +60,22 @@ fn tune_of(alloc: Global, stage: Stage, text: &str, whose: Whose) -> Result<Tune
 
 // The notation of a method.
 #[tactic(auto, using(crate::proofs::Spelled::method_text_is))]
-fn method_notation(file: &File, index: usize) -> &str
+fn method_notation<'a>(file: &File<'a>, index: usize) -> &'a str
     requires { index < length file.now.methods }
     ensures { result.now ≡ get_or (method_texts file.now) index [] }
 {
     let method = &file.methods[index];
-    method.notation.as_str()
+    method.notation
 }
 
 // The notation of a call.
 #[tactic(auto, using(crate::proofs::Spelled::call_text_is))]
-fn call_notation(file: &File, index: usize) -> &str
+fn call_notation<'a>(file: &File<'a>, index: usize) -> &'a str
     requires { index < length file.now.calls }
     ensures { result.now ≡ get_or (call_texts file.now) index [] }
 {
     let call = &file.calls[index];
-    call.notation.as_str()
+    call.notation
 }
 
 fn tunes_of_methods(alloc: Global, stage: Stage, file: &File) -> Result<Vec<Tune>, ProblemFault>

@@ -17,7 +17,9 @@ IsPermutation-changed made p (x ∷ []) = IsPermutation-refl (x ∷ [])
 IsPermutation-changed made p (x ∷ y ∷ xs) =
     by (list_any (nat_eq p) made) (IsPermutation-changed made (p + 1) (y ∷ xs)) (IsPermutation-changed made (p + 2) xs)
   where
-    by : (b : Bool) → IsPermutation (y ∷ xs) (changed made (p + 1) (y ∷ xs)) → IsPermutation xs (changed made (p + 2) xs) → IsPermutation (x ∷ y ∷ xs) (cond b (x ∷ changed made (p + 1) (y ∷ xs)) (y ∷ x ∷ changed made (p + 2) xs))
+    by : (b : Bool) → IsPermutation (y ∷ xs) (changed made (p + 1) (y ∷ xs))
+        → IsPermutation xs (changed made (p + 2) xs)
+        → IsPermutation (x ∷ y ∷ xs) (cond b (x ∷ changed made (p + 1) (y ∷ xs)) (y ∷ x ∷ changed made (p + 2) xs))
     by true one two = IsPermutation-cons x (y ∷ xs) (changed made (p + 1) (y ∷ xs)) one
     by false one two =
         IsPermutation-trans (x ∷ y ∷ xs) (y ∷ x ∷ xs) (y ∷ x ∷ changed made (p + 2) xs)
@@ -60,11 +62,13 @@ pub IsRow-changed : (made row : List ℕ) → IsRow row → IsRow (changed made 
 IsRow-changed made row p = IsRow-permutation row (changed made 1 row) (IsPermutation-changed made 1 row) p
 
 -- ---- a change on lists, from place p on
-at_stay : (made : List ℕ) (p x : ℕ) (xs : List ℕ) → list_any (nat_eq p) made ≡ true → changed made p (x ∷ xs) ≡ x ∷ changed made (p + 1) xs
+at_stay : (made : List ℕ) (p x : ℕ) (xs : List ℕ) → list_any (nat_eq p) made ≡ true
+    → changed made p (x ∷ xs) ≡ x ∷ changed made (p + 1) xs
 at_stay made p x [] e = refl
 at_stay made p x (y ∷ ys) e = ap (λ b. cond b (x ∷ changed made (p + 1) (y ∷ ys)) (y ∷ x ∷ changed made (p + 2) ys)) e
 
-at_swap : (made : List ℕ) (p x y : ℕ) (xs : List ℕ) → list_any (nat_eq p) made ≡ false → changed made p (x ∷ y ∷ xs) ≡ y ∷ x ∷ changed made (p + 2) xs
+at_swap : (made : List ℕ) (p x y : ℕ) (xs : List ℕ) → list_any (nat_eq p) made ≡ false
+    → changed made p (x ∷ y ∷ xs) ≡ y ∷ x ∷ changed made (p + 2) xs
 at_swap made p x y xs e = ap (λ b. cond b (x ∷ changed made (p + 1) (y ∷ xs)) (y ∷ x ∷ changed made (p + 2) xs)) e
 
 pub length-changed : (made : List ℕ) (p : ℕ) (row : List ℕ) → length (changed made p row) ≡ length row
@@ -95,11 +99,13 @@ near_more : (x y : ℕ) (row other : List ℕ) (i : ℕ) → IsNear row other i 
 near_more x y row other i near =
     record { to = suc near.to; within = omega (arith, near.within); up = omega (arith, near.up); down = omega (arith, near.down); bell = near.bell }
 
-near_stay : (x y : ℕ) (xs other : List ℕ) → ((i : ℕ) → i < length (y ∷ xs) → IsNear (y ∷ xs) other i) → (i : ℕ) → i < length (x ∷ y ∷ xs) → IsNear (x ∷ y ∷ xs) (x ∷ other) i
+near_stay : (x y : ℕ) (xs other : List ℕ) → ((i : ℕ) → i < length (y ∷ xs) → IsNear (y ∷ xs) other i) → (i : ℕ)
+    → i < length (x ∷ y ∷ xs) → IsNear (x ∷ y ∷ xs) (x ∷ other) i
 near_stay x y xs other rest zero h = record { to = 0; within = omega arith; up = omega arith; down = omega arith; bell = refl }
 near_stay x y xs other rest (suc i) h = near_more x x (y ∷ xs) other i (rest i (omega arith))
 
-near_swap : (x y : ℕ) (xs other : List ℕ) → ((i : ℕ) → i < length xs → IsNear xs other i) → (i : ℕ) → i < length (x ∷ y ∷ xs) → IsNear (x ∷ y ∷ xs) (y ∷ x ∷ other) i
+near_swap : (x y : ℕ) (xs other : List ℕ) → ((i : ℕ) → i < length xs → IsNear xs other i) → (i : ℕ)
+    → i < length (x ∷ y ∷ xs) → IsNear (x ∷ y ∷ xs) (y ∷ x ∷ other) i
 near_swap x y xs other rest zero h = record { to = 1; within = omega arith; up = omega arith; down = omega arith; bell = refl }
 near_swap x y xs other rest (suc zero) h = record { to = 0; within = omega arith; up = omega arith; down = omega arith; bell = refl }
 near_swap x y xs other rest (suc (suc i)) h = near_more x y (y ∷ xs) (x ∷ other) (suc i) (near_more y x xs other i (rest i (omega arith)))
@@ -145,7 +151,8 @@ same_bell : (xs ys : List ℕ) (i j d : ℕ) → i ≡ j → get_or xs j d ≡ g
 same_bell xs ys i j d e h = ap (λ k. get_or xs k d) e ∙ h ∙ ap (λ k. get_or ys k d) (sym e)
 
 -- the bell at a place made stays
-pub changed_stays : (b p n q : ℕ) (made row : List ℕ) → p ≡ b + 1 → n + 1 ≡ p + length row → IsChain n b made → list_any (nat_eq q) made ≡ true → get_or (changed made p row) (q - p) 0 ≡ get_or row (q - p) 0
+pub changed_stays : (b p n q : ℕ) (made row : List ℕ) → p ≡ b + 1 → n + 1 ≡ p + length row → IsChain n b made
+    → list_any (nat_eq q) made ≡ true → get_or (changed made p row) (q - p) 0 ≡ get_or row (q - p) 0
 changed_stays b p n q made [] at to h is = refl
 changed_stays b p n q made (x ∷ []) at to h is = refl
 changed_stays b p n q [] (x ∷ y ∷ xs) at to h is = absurd (false≢true is)
@@ -171,11 +178,13 @@ changed_stays b p n q (m ∷ ms) (x ∷ y ∷ xs) at to h is = elim (cases_eq p 
 ]
 
 -- a place made stands where it stood
-pub after_stays : (c : Places) (r : List ℕ) (p : ℕ) → IsChange c → length r ≡ c.stage → list_any (nat_eq p) c.made ≡ true → get_or (changed c.made 1 r) (p - 1) 0 ≡ get_or r (p - 1) 0
+pub after_stays : (c : Places) (r : List ℕ) (p : ℕ) → IsChange c → length r ≡ c.stage
+    → list_any (nat_eq p) c.made ≡ true → get_or (changed c.made 1 r) (p - 1) 0 ≡ get_or r (p - 1) 0
 after_stays c r p change long is = changed_stays 0 1 c.stage p c.made r refl (omega arith) change is
 
 -- a change of a product
-pub changed-product : (h made : List ℕ) (p : ℕ) (r : List ℕ) → changed made p (product h r) ≡ product h (changed made p r)
+pub changed-product : (h made : List ℕ) (p : ℕ) (r : List ℕ)
+    → changed made p (product h r) ≡ product h (changed made p r)
 changed-product h made p [] = refl
 changed-product h made p (x ∷ []) = refl
 changed-product h made p (x ∷ y ∷ xs) = elim (cases_Bool (list_any (nat_eq p) made)) [
@@ -200,7 +209,8 @@ up_one : (i j : ℕ) → (j ≡ i + 1) ⊎ (i ≡ j + 1) → (suc j ≡ suc i + 
 up_one i j (inl above) = inl (omega arith)
 up_one i j (inr below) = inr (omega arith)
 
-swap_more : (made : List ℕ) (p q x y : ℕ) (row other : List ℕ) (i : ℕ) → q ≡ p + 1 → IsSwap made q row other i → IsSwap made p (x ∷ row) (y ∷ other) (suc i)
+swap_more : (made : List ℕ) (p q x y : ℕ) (row other : List ℕ) (i : ℕ) → q ≡ p + 1 → IsSwap made q row other i
+    → IsSwap made p (x ∷ row) (y ∷ other) (suc i)
 swap_more made p q x y row other i e swap =
     let place : q + swap.to ≡ p + suc swap.to = omega arith in
     record {
@@ -212,7 +222,8 @@ swap_more made p q x y row other i e swap =
       there = swap.there;
     }
 
-swap_below : (made : List ℕ) (p q m : ℕ) (row other : List ℕ) (i : ℕ) → m < q → IsSwap made q row other i → IsSwap (m ∷ made) q row other i
+swap_below : (made : List ℕ) (p q m : ℕ) (row other : List ℕ) (i : ℕ) → m < q → IsSwap made q row other i
+    → IsSwap (m ∷ made) q row other i
 swap_below made p q m row other i low swap =
     let above : q + swap.to ≢ m = omega arith in
     record {
@@ -225,7 +236,8 @@ swap_below made p q m row other i low swap =
     }
 
 -- at the start of two places not made
-swap_here : (made : List ℕ) (p x y : ℕ) (xs : List ℕ) (i : ℕ) → i < length (x ∷ y ∷ xs) → list_any (nat_eq p) made ≡ false → list_any (nat_eq (p + 1)) made ≡ false
+swap_here : (made : List ℕ) (p x y : ℕ) (xs : List ℕ) (i : ℕ) → i < length (x ∷ y ∷ xs)
+    → list_any (nat_eq p) made ≡ false → list_any (nat_eq (p + 1)) made ≡ false
     → ((k : ℕ) → k + 2 ≡ i → k < length xs → IsSwap made (p + 2) xs (changed made (p + 2) xs) k) → IsSwap made p (x ∷ y ∷ xs) (y ∷ x ∷ changed made (p + 2) xs) i
 swap_here made p x y xs zero h one two rest =
     record { to = 1; within = omega arith; next = inl (omega arith); free = two; here = refl; there = refl }
@@ -237,7 +249,8 @@ swap_here made p x y xs (suc (suc i)) h one two rest =
     (swap_more made (p + 1) (p + 2) y x xs (changed made (p + 2) xs) i (omega arith) (rest i (omega arith) (omega arith)))
 
 -- at the start of a place made
-stay_here : (ms : List ℕ) (p m x y : ℕ) (xs : List ℕ) (i : ℕ) → i < length (x ∷ y ∷ xs) → p ≡ m → list_any (nat_eq (p + i)) (m ∷ ms) ≡ false
+stay_here : (ms : List ℕ) (p m x y : ℕ) (xs : List ℕ) (i : ℕ) → i < length (x ∷ y ∷ xs) → p ≡ m
+    → list_any (nat_eq (p + i)) (m ∷ ms) ≡ false
     → ((k : ℕ) → k + 1 ≡ i → k < length (y ∷ xs) → IsSwap ms (p + 1) (y ∷ xs) (changed ms (p + 1) (y ∷ xs)) k) → IsSwap (m ∷ ms) p (x ∷ y ∷ xs) (x ∷ changed ms (p + 1) (y ∷ xs)) i
 stay_here ms p m x y xs zero h here free rest =
     let made : list_any (nat_eq (p + 0)) (m ∷ ms) ≡ true = ap (λ t. t || list_any (nat_eq (p + 0)) ms) (agree (p + 0) m (omega arith)) in
@@ -246,14 +259,16 @@ stay_here ms p m x y xs (suc i) h here free rest =
     swap_more (m ∷ ms) p (p + 1) x x (y ∷ xs) (changed ms (p + 1) (y ∷ xs)) i refl
     (swap_below ms p (p + 1) m (y ∷ xs) (changed ms (p + 1) (y ∷ xs)) i (omega arith) (rest i (omega arith) (omega arith)))
 
-no_odd_end : (b p n : ℕ) (made : List ℕ) → p ≡ b + 1 → n + 1 ≡ p + 1 → IsChain n b made → list_any (nat_eq p) made ≡ false → ⊥
+no_odd_end : (b p n : ℕ) (made : List ℕ) → p ≡ b + 1 → n + 1 ≡ p + 1 → IsChain n b made
+    → list_any (nat_eq p) made ≡ false → ⊥
 no_odd_end b p n [] at to h free = omega (arith, h.1)
 no_odd_end b p n (m ∷ ms) at to h free =
     let here : p ≡ m = omega (arith, h.0.0, chain_low n m ms h.1) in
     false≢true (sym free ∙ ap (λ t. t || list_any (nat_eq p) ms) (agree p m here))
 
 -- the bells at places not made swap
-pub changed_swaps : (b p n : ℕ) (made row : List ℕ) (i : ℕ) → p ≡ b + 1 → n + 1 ≡ p + length row → IsChain n b made → i < length row → list_any (nat_eq (p + i)) made ≡ false → IsSwap made p row (changed made p row) i
+pub changed_swaps : (b p n : ℕ) (made row : List ℕ) (i : ℕ) → p ≡ b + 1 → n + 1 ≡ p + length row → IsChain n b made
+    → i < length row → list_any (nat_eq (p + i)) made ≡ false → IsSwap made p row (changed made p row) i
 changed_swaps b p n made [] i at to h in' free = absurd (omega arith)
 changed_swaps b p n made (x ∷ []) i at to h in' free =
     let first : p + i ≡ p = omega arith in
@@ -285,7 +300,8 @@ changed_swaps b p n (m ∷ ms) (x ∷ y ∷ xs) i at to h in' free = elim (cases
 ]
 
 -- of a change on a row of its stage, by indexes from 0
-pub after_swaps : (c : Places) (r : List ℕ) (i : ℕ) → IsChange c → length r ≡ c.stage → i < c.stage → list_any (nat_eq (i + 1)) c.made ≡ false → IsSwap c.made 1 r (changed c.made 1 r) i
+pub after_swaps : (c : Places) (r : List ℕ) (i : ℕ) → IsChange c → length r ≡ c.stage → i < c.stage
+    → list_any (nat_eq (i + 1)) c.made ≡ false → IsSwap c.made 1 r (changed c.made 1 r) i
 after_swaps c r i change long within free =
     let place : i + 1 ≡ 1 + i = omega arith in
     changed_swaps 0 1 c.stage c.made r i refl (omega arith) change (omega arith) (ap (λ q. list_any (nat_eq q) c.made) (sym place) ∙ free)

@@ -7,7 +7,9 @@ use Rattle.cr_row.specs.Packed.{bells_of, bells_length, bell_read, Undone}
 use Rattle.cr_row.proofs.Nibbles.{at_most_16}
 use Rattle.cr_row.proofs.RowLaws.{length-rounds, get_or-rounds, length-product, get_or-product}
 
-pub inverse_more : (row bells : List ℕ) (i j x : ℕ) → IsRow row → i < length row → length row ≤ length bells → j ≡ get_or row i 0 - 1 → x ≡ i + 1 → ((k : ℕ) → k < i → get_or bells (get_or row k 0 - 1) 0 ≡ k + 1) → (k : ℕ) → k < i + 1 → get_or (set bells j x) (get_or row k 0 - 1) 0 ≡ k + 1
+pub inverse_more : (row bells : List ℕ) (i j x : ℕ) → IsRow row → i < length row → length row ≤ length bells
+    → j ≡ get_or row i 0 - 1 → x ≡ i + 1 → ((k : ℕ) → k < i → get_or bells (get_or row k 0 - 1) 0 ≡ k + 1) → (k : ℕ)
+    → k < i + 1 → get_or (set bells j x) (get_or row k 0 - 1) 0 ≡ k + 1
 inverse_more row bells i j x p in' room at is each = below_more _ _
     (λ k below.
     let mine = p.in_range i in' in
@@ -18,7 +20,8 @@ inverse_more row bells i j x p in' room at is each = below_more _ _
     let place : j < length bells = omega arith in
     ap (λ b. get_or (set bells j x) b 0) (sym at) ∙ get_or-set_same bells j x 0 place ∙ is)
 
-pub inverse_row : (h table : List ℕ) → IsRow h → length table ≡ length h → ((k : ℕ) → k < length h → get_or table (get_or h k 0 - 1) 0 ≡ k + 1) → Undone h table
+pub inverse_row : (h table : List ℕ) → IsRow h → length table ≡ length h
+    → ((k : ℕ) → k < length h → get_or table (get_or h k 0 - 1) 0 ≡ k + 1) → Undone h table
 inverse_row h table p long each =
     let at : (i : ℕ) → i < length h → (k : ℕ) × (k < length h) × (get_or h k 0 ≡ i + 1) × (get_or table i 0 ≡ k + 1) =
     λ i in'. (let (k, within, bell) = p.reached (i + 1) (omega arith) (omega arith) in
@@ -66,7 +69,8 @@ pow-pos zero = omega arith
 pow-pos (suc n) = omega (arith, pow-pos n)
 
 -- four bits of a packed row are set, where they were not
-bits_set : (n bits j x : ℕ) → j < n → x < 16 → get_or (bells_of n bits) j 0 ≡ 1 → bells_of n (bits + x * 2 ^ (4 * j)) ≡ set (bells_of n bits) j (x + 1)
+bits_set : (n bits j x : ℕ) → j < n → x < 16 → get_or (bells_of n bits) j 0 ≡ 1
+    → bells_of n (bits + x * 2 ^ (4 * j)) ≡ set (bells_of n bits) j (x + 1)
 bits_set zero bits j x in' small free = absurd (omega arith)
 bits_set (suc n) bits zero x in' small free =
     let digit : (bits + x * 2 ^ (4 * 0)) % 16 + 1 ≡ x + 1 = omega arith in
@@ -78,7 +82,8 @@ bits_set (suc n) bits (suc j) x in' small free =
     let rest : (bits + x * 2 ^ (4 * suc j)) / 16 ≡ bits / 16 + x * 2 ^ (4 * j) = omega arith in
     (λ i. digit i ∷ bells_of n (rest i)) ∙ ap (λ l. (bits % 16 + 1) ∷ l) (bits_set n (bits / 16) j x (omega arith) small free)
 
-bits_fit : (n bits j x : ℕ) → j < n → x < 16 → bits < 16 ^ n → get_or (bells_of n bits) j 0 ≡ 1 → bits + x * 2 ^ (4 * j) < 16 ^ n
+bits_fit : (n bits j x : ℕ) → j < n → x < 16 → bits < 16 ^ n → get_or (bells_of n bits) j 0 ≡ 1
+    → bits + x * 2 ^ (4 * j) < 16 ^ n
 bits_fit zero bits j x in' small fits free = absurd (omega arith)
 bits_fit (suc n) bits zero x in' small fits free = omega arith
 bits_fit (suc n) bits (suc j) x in' small fits free =
@@ -99,7 +104,8 @@ Turned-none h n row long = record {
   free = λ k low in'. (let bell = row.in_range k in' in bell_read n 0 (get_or h k 0 - 1) 0 (omega arith) ∙ zero_bits (4 * (get_or h k 0 - 1)));
 }
 
-pub Turned-more : (h : List ℕ) (n table place j : ℕ) → IsRow h → length h ≡ n → n ≤ 16 → place < n → j ≡ get_or h place 0 - 1 → Turned h n table place → Turned h n (table + place * 2 ^ (4 * j)) (place + 1)
+pub Turned-more : (h : List ℕ) (n table place j : ℕ) → IsRow h → length h ≡ n → n ≤ 16 → place < n
+    → j ≡ get_or h place 0 - 1 → Turned h n table place → Turned h n (table + place * 2 ^ (4 * j)) (place + 1)
 Turned-more h n table place j row long few in' at turned =
     let bell = row.in_range place (omega arith) in
     let inside : j < n = omega arith in
@@ -114,12 +120,15 @@ Turned-more h n table place j row long few in' at turned =
           get_or-set_other (bells_of n table) j (get_or h k 0 - 1) (place + 1) 0 other ∙ turned.free k (omega arith) within);
     }
 
-pub Turned-all : (h : List ℕ) (n table place : ℕ) → IsRow h → length h ≡ n → place ≡ n → Turned h n table place → Undone h (bells_of n table)
+pub Turned-all : (h : List ℕ) (n table place : ℕ) → IsRow h → length h ≡ n → place ≡ n → Turned h n table place
+    → Undone h (bells_of n table)
 Turned-all h n table place row long all turned =
     inverse_row h (bells_of n table) row (bells_length n table ∙ sym long) (λ k in'. turned.each k (omega arith))
 
 -- one bell more, as the code computes it
-pub Turned-shifted : (n bits table place x j : ℕ) → n ≤ 16 → IsRow (bells_of n bits) → place < n → x ≡ place → j ≡ bits / 2 ^ (4 * place) % 16 → Turned (bells_of n bits) n table place → Turned (bells_of n bits) n (table + x * 2 ^ (4 * j) % 18446744073709551616) (place + 1)
+pub Turned-shifted : (n bits table place x j : ℕ) → n ≤ 16 → IsRow (bells_of n bits) → place < n → x ≡ place
+    → j ≡ bits / 2 ^ (4 * place) % 16 → Turned (bells_of n bits) n table place
+    → Turned (bells_of n bits) n (table + x * 2 ^ (4 * j) % 18446744073709551616) (place + 1)
 Turned-shifted n bits table place x j few row in' is at turned =
     let read : get_or (bells_of n bits) place 0 ≡ bits / 2 ^ (4 * place) % 16 + 1 = bell_read n bits place 0 in' in
     let next : Turned (bells_of n bits) n (table + place * 2 ^ (4 * j)) (place + 1) = Turned-more (bells_of n bits) n table place j row (bells_length n bits) few in' (omega arith) turned in

@@ -55,13 +55,16 @@ made_skip n p s =
     let next : p + 1 + 1 ≡ p + 2 = omega arith in
     made_none (suc n) p (16 * s) (256 * s) (omega arith) ∙ made_none n (p + 1) s (16 * s) refl ∙ ap (λ q. made_of n q s) next
 
-stay_hit : (n p : ℕ) (made : List ℕ) → list_any (nat_eq p) made ≡ true → stay_of (suc (suc n)) p made ≡ 15 + 16 * stay_of (suc n) (p + 1) made
+stay_hit : (n p : ℕ) (made : List ℕ) → list_any (nat_eq p) made ≡ true
+    → stay_of (suc (suc n)) p made ≡ 15 + 16 * stay_of (suc n) (p + 1) made
 stay_hit n p made e = ap (λ b. cond b (15 + 16 * stay_of (suc n) (p + 1) made) (256 * stay_of n (p + 2) made)) e
 
-stay_skip : (n p : ℕ) (made : List ℕ) → list_any (nat_eq p) made ≡ false → stay_of (suc (suc n)) p made ≡ 256 * stay_of n (p + 2) made
+stay_skip : (n p : ℕ) (made : List ℕ) → list_any (nat_eq p) made ≡ false
+    → stay_of (suc (suc n)) p made ≡ 256 * stay_of n (p + 2) made
 stay_skip n p made e = ap (λ b. cond b (15 + 16 * stay_of (suc n) (p + 1) made) (256 * stay_of n (p + 2) made)) e
 
-back : (n b p top : ℕ) (made : List ℕ) → p ≡ b + 1 → top + 1 ≡ p + n → IsChain top b made → made_of n p (stay_of n p made) ≡ made
+back : (n b p top : ℕ) (made : List ℕ) → p ≡ b + 1 → top + 1 ≡ p + n → IsChain top b made
+    → made_of n p (stay_of n p made) ≡ made
 back zero b p top [] at to h = refl
 back zero b p top (x ∷ xs) at to h = absurd (omega (arith, h.0.0, chain_low top x xs h.1))
 back (suc zero) b p top [] at to h = absurd (omega (arith, h.1))
@@ -85,11 +88,13 @@ back (suc (suc n)) b p top (x ∷ xs) at to h = elim (cases_eq p x) [
       ∙ back n (b + 2) (p + 2) top (x ∷ xs) (omega arith) (omega arith) ((omega (arith, h.0.0, h.0.1), omega (arith, h.0.0, h.0.1)), h.1)
 ]
 
-pub made_back : (stage : ℕ) (places : List ℕ) → IsChange (record { stage = stage; made = places }) → made_of stage 1 (stay_of stage 1 places) ≡ places
+pub made_back : (stage : ℕ) (places : List ℕ) → IsChange (record { stage = stage; made = places })
+    → made_of stage 1 (stay_of stage 1 places) ≡ places
 made_back stage places change = back stage 0 1 stage places refl (omega arith) change
 
 -- a place is made where its four bits are set
-any_cond : (b : Bool) (p x : ℕ) (xs : List ℕ) → list_any (nat_eq p) (cond b (x ∷ xs) xs) ≡ (cond b (nat_eq p x) false || list_any (nat_eq p) xs)
+any_cond : (b : Bool) (p x : ℕ) (xs : List ℕ)
+    → list_any (nat_eq p) (cond b (x ∷ xs) xs) ≡ (cond b (nat_eq p x) false || list_any (nat_eq p) xs)
 any_cond true p x xs = refl
 any_cond false p x xs = refl
 
@@ -115,7 +120,8 @@ made_from (suc n) p stay q h =
     any_cond (nat_eq (stay % 16) 15) q p (made_of n (p + 1) (stay / 16))
     ∙ false_or _ _ (other_place (nat_eq (stay % 16) 15) q p other) ∙ made_from n (p + 1) (stay / 16) q (omega arith)
 
-made_at : (n p stay k q : ℕ) → k < n → q ≡ p + k → list_any (nat_eq q) (made_of n p stay) ≡ nat_eq (stay / 2 ^ (4 * k) % 16) 15
+made_at : (n p stay k q : ℕ) → k < n → q ≡ p + k
+    → list_any (nat_eq q) (made_of n p stay) ≡ nat_eq (stay / 2 ^ (4 * k) % 16) 15
 made_at zero p stay k q h at = absurd (omega arith)
 made_at (suc n) p stay zero q h at =
     let here : stay ≡ stay / 2 ^ (4 * 0) = omega arith in
@@ -131,16 +137,20 @@ made_at (suc n) p stay (suc k) q h at =
     ∙ made_at n (p + 1) (stay / 16) k q (omega arith) (omega arith) ∙ ap (λ b. nat_eq (b % 16) 15) (further ∙ ap (λ j. stay / 2 ^ j) place)
 
 -- and by `&` and `>>`
-made_by_mask : (n stay p : ℕ) → 1 ≤ p → p ≤ n → nat_eq (bit_and (stay / 2 ^ (4 * (p - 1))) 15) 15 ≡ list_any (nat_eq p) (made_of n 1 stay)
+made_by_mask : (n stay p : ℕ) → 1 ≤ p → p ≤ n
+    → nat_eq (bit_and (stay / 2 ^ (4 * (p - 1))) 15) 15 ≡ list_any (nat_eq p) (made_of n 1 stay)
 made_by_mask n stay p low high =
     ap (λ b. nat_eq b 15) (and_mask (stay / 2 ^ (4 * (p - 1))) 4) ∙ sym (made_at n 1 stay (p - 1) p (omega arith) (omega arith))
 
-pub made_read : (v : Places) (n stay p : ℕ) → Path Places (record { stage = n; made = made_of n 1 stay }) v → 1 ≤ p → p ≤ v.stage → nat_eq (bit_and (stay / 2 ^ (4 * (p - 1))) 15) 15 ≡ list_any (nat_eq p) v.made
+pub made_read : (v : Places) (n stay p : ℕ) → Path Places (record { stage = n; made = made_of n 1 stay }) v → 1 ≤ p
+    → p ≤ v.stage → nat_eq (bit_and (stay / 2 ^ (4 * (p - 1))) 15) 15 ≡ list_any (nat_eq p) v.made
 made_read v n stay p e low =
     subst (λ (w : Places). p ≤ w.stage → nat_eq (bit_and (stay / 2 ^ (4 * (p - 1))) 15) 15 ≡ list_any (nat_eq p) w.made) e (made_by_mask n stay p low)
 
 -- what a change's masks keep
-pub masked : (stage stay first : ℕ) (places : List ℕ) → 3 ≤ stage → stage ≤ 16 → IsChange (record { stage = stage; made = places }) → stay ≡ stay_of stage 1 places → first ≡ first_of stage 1 places → IsMasked stage stay first
+pub masked : (stage stay first : ℕ) (places : List ℕ) → 3 ≤ stage → stage ≤ 16
+    → IsChange (record { stage = stage; made = places }) → stay ≡ stay_of stage 1 places
+    → first ≡ first_of stage 1 places → IsMasked stage stay first
 masked stage stay first places low high change stays firsts =
     let same : made_of stage 1 stay ≡ places = ap (made_of stage 1) stays ∙ made_back stage places change in
     record {
@@ -151,23 +161,27 @@ masked stage stay first places low high change stays firsts =
       is_change = subst (λ (l : List ℕ). IsChange (record { stage = stage; made = l })) (sym same) change;
     }
 
-pub left_or_made : (place stage : ℕ) (test : Bool) → (place ≡ stage) ⊎ (test ≡ true) → (stage + 1 - (place + 1) ≡ 0) ⊎ (test ≡ true)
+pub left_or_made : (place stage : ℕ) (test : Bool) → (place ≡ stage) ⊎ (test ≡ true)
+    → (stage + 1 - (place + 1) ≡ 0) ⊎ (test ≡ true)
 left_or_made place stage test (inl last) = inl (omega arith)
 left_or_made place stage test (inr made) = inr made
 
 -- one place more at the bottom
-pub stays_more : (m n p q : ℕ) (made : List ℕ) → m ≡ suc n → q ≡ p + 1 → (n ≡ 0) ⊎ (list_any (nat_eq p) made ≡ true) → (stay_of m p made ≡ 16 * stay_of n q made + 15) × (first_of m p made ≡ 16 * first_of n q made)
+pub stays_more : (m n p q : ℕ) (made : List ℕ) → m ≡ suc n → q ≡ p + 1 → (n ≡ 0) ⊎ (list_any (nat_eq p) made ≡ true)
+    → (stay_of m p made ≡ 16 * stay_of n q made + 15) × (first_of m p made ≡ 16 * first_of n q made)
 stays_more m n p q made more next h = subst (λ (l : ℕ). (stay_of l p made ≡ 16 * stay_of n q made + 15) × (first_of l p made ≡ 16 * first_of n q made)) (sym more)
     (subst (λ (r : ℕ). (stay_of (suc n) p made ≡ 16 * stay_of n r made + 15) × (first_of (suc n) p made ≡ 16 * first_of n r made)) (sym next) (by n h))
   where
-    by : (k : ℕ) → (k ≡ 0) ⊎ (list_any (nat_eq p) made ≡ true) → (stay_of (suc k) p made ≡ 16 * stay_of k (p + 1) made + 15) × (first_of (suc k) p made ≡ 16 * first_of k (p + 1) made)
+    by : (k : ℕ) → (k ≡ 0) ⊎ (list_any (nat_eq p) made ≡ true)
+        → (stay_of (suc k) p made ≡ 16 * stay_of k (p + 1) made + 15) × (first_of (suc k) p made ≡ 16 * first_of k (p + 1) made)
     by zero h = (refl, refl)
     by (suc k) (inl e) = absurd (omega arith)
     by (suc k) (inr e) =
         let low = stay_hit k p made e in
         (omega arith, ap (λ b. cond b (16 * first_of (suc k) (p + 1) made) (15 + 256 * first_of k (p + 2) made)) e)
 
-pub swaps_more : (m n p q : ℕ) (made : List ℕ) → m ≡ suc (suc n) → q ≡ p + 2 → list_any (nat_eq p) made ≡ false → (stay_of m p made ≡ 256 * stay_of n q made) × (first_of m p made ≡ 256 * first_of n q made + 15)
+pub swaps_more : (m n p q : ℕ) (made : List ℕ) → m ≡ suc (suc n) → q ≡ p + 2 → list_any (nat_eq p) made ≡ false
+    → (stay_of m p made ≡ 256 * stay_of n q made) × (first_of m p made ≡ 256 * first_of n q made + 15)
 swaps_more m n p q made more next e = subst (λ (l : ℕ). (stay_of l p made ≡ 256 * stay_of n q made) × (first_of l p made ≡ 256 * first_of n q made + 15)) (sym more)
     (subst (λ (r : ℕ). (stay_of (suc (suc n)) p made ≡ 256 * stay_of n r made) × (first_of (suc (suc n)) p made ≡ 256 * first_of n r made + 15)) (sym next)
     (let low : first_of (suc (suc n)) p made ≡ 15 + 256 * first_of n (p + 2) made = ap (λ b. cond b (16 * first_of (suc n) (p + 1) made) (15 + 256 * first_of n (p + 2) made)) e in

@@ -34,7 +34,8 @@ moved_stays : (bits s f : ℕ) → moved bits (15 + 16 * s) (16 * f) ≡ bits % 
 moved_stays bits s f =
     omega (arith, and_all bits s (15 + 16 * s) (omega arith), and_none bits f (16 * f) refl, and_none (bits / 16) f (16 * f) refl)
 
-moved_swaps : (bits s f : ℕ) → moved bits (256 * s) (15 + 256 * f) ≡ bits / 16 % 16 + 16 * (bits % 16 + 16 * moved (bits / 16 / 16) s f)
+moved_swaps : (bits s f : ℕ)
+    → moved bits (256 * s) (15 + 256 * f) ≡ bits / 16 % 16 + 16 * (bits % 16 + 16 * moved (bits / 16 / 16) s f)
 moved_swaps bits s f =
     omega (
       arith,
@@ -59,7 +60,8 @@ last_stays bits =
     omega (arith, and_le_r bits 0, and_le_r (bits / 16) 0)
 
 -- the packed bells are those after the change
-pub moved_bells : (n p : ℕ) (made : List ℕ) (bits : ℕ) → bells_of n (moved bits (stay_of n p made) (first_of n p made)) ≡ changed made p (bells_of n bits)
+pub moved_bells : (n p : ℕ) (made : List ℕ) (bits : ℕ)
+    → bells_of n (moved bits (stay_of n p made) (first_of n p made)) ≡ changed made p (bells_of n bits)
 moved_bells zero p made bits = refl
 moved_bells (suc zero) p made bits = ap (λ b. b ∷ []) (last_stays bits)
 moved_bells (suc (suc n)) p made bits =
@@ -86,7 +88,8 @@ masks_fill zero p made = refl
 masks_fill (suc zero) p made = refl
 masks_fill (suc (suc n)) p made = by (list_any (nat_eq p) made) (masks_fill (suc n) (p + 1) made) (masks_fill n (p + 2) made)
   where
-    by : (b : Bool) → stay_of (suc n) (p + 1) made + 17 * first_of (suc n) (p + 1) made + 1 ≡ 16 ^ suc n → stay_of n (p + 2) made + 17 * first_of n (p + 2) made + 1 ≡ 16 ^ n
+    by : (b : Bool) → stay_of (suc n) (p + 1) made + 17 * first_of (suc n) (p + 1) made + 1 ≡ 16 ^ suc n
+        → stay_of n (p + 2) made + 17 * first_of n (p + 2) made + 1 ≡ 16 ^ n
         → cond b (15 + 16 * stay_of (suc n) (p + 1) made) (256 * stay_of n (p + 2) made) + 17 * cond b (16 * first_of (suc n) (p + 1) made) (15 + 256 * first_of n (p + 2) made) + 1 ≡ 16 ^ suc (suc n)
     by true one two = omega arith
     by false one two = omega arith
@@ -102,7 +105,8 @@ moved_fits n p made bits =
 abbrev pub coded : ℕ → ℕ → ℕ → ℕ
 coded bits stay first = bit_and bits stay + bit_and bits first * 16 % 18446744073709551616 + bit_and (bits / 16) first
 
-pub coded_is : (n p : ℕ) (made : List ℕ) (bits : ℕ) → n ≤ 16 → coded bits (stay_of n p made) (first_of n p made) ≡ moved bits (stay_of n p made) (first_of n p made)
+pub coded_is : (n p : ℕ) (made : List ℕ) (bits : ℕ) → n ≤ 16
+    → coded bits (stay_of n p made) (first_of n p made) ≡ moved bits (stay_of n p made) (first_of n p made)
 coded_is n p made bits few =
     omega (arith, masks_fill n p made, at_most_16 n few, and_le_r bits (first_of n p made))
 
@@ -112,7 +116,8 @@ pub record IsMoved (v : Places) (bits stay first : ℕ) : Type 0 where
   pub fits : coded bits stay first < 16 ^ v.stage
   pub room : coded bits stay first < 18446744073709551616
 
-moved_masks : (n bits : ℕ) (made : List ℕ) → n ≤ 16 → IsMoved (record { stage = n; made = made }) bits (stay_of n 1 made) (first_of n 1 made)
+moved_masks : (n bits : ℕ) (made : List ℕ) → n ≤ 16
+    → IsMoved (record { stage = n; made = made }) bits (stay_of n 1 made) (first_of n 1 made)
 moved_masks n bits made few =
     let same : coded bits (stay_of n 1 made) (first_of n 1 made) ≡ moved bits (stay_of n 1 made) (first_of n 1 made) = coded_is n 1 made bits few in
     let fits : moved bits (stay_of n 1 made) (first_of n 1 made) < 16 ^ n = moved_fits n 1 made bits in
@@ -123,7 +128,8 @@ moved_masks n bits made few =
       room = omega arith;
     }
 
-pub moved_right : (v : Places) (n stay first bits : ℕ) → IsMasked n stay first → Path Places (record { stage = n; made = made_of n 1 stay }) v → IsMoved v bits stay first
+pub moved_right : (v : Places) (n stay first bits : ℕ) → IsMasked n stay first
+    → Path Places (record { stage = n; made = made_of n 1 stay }) v → IsMoved v bits stay first
 moved_right v n stay first bits masked e =
     subst (λ (w : Places). IsMoved w bits stay first) e
     (subst (λ (f : ℕ). IsMoved (record { stage = n; made = made_of n 1 stay }) bits stay f) masked.firsts

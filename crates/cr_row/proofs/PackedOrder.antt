@@ -30,14 +30,17 @@ first_decides Equal p q h = h refl
 first_decides Greater p q h = refl
 
 -- one more element at the end
-cmp_push : (xs ys : List ℕ) (x y : ℕ) → length xs ≡ length ys → slice_cmp nat_cmp (xs ++ x ∷ []) (ys ++ y ∷ []) ≡ ordering_then (slice_cmp nat_cmp xs ys) (nat_cmp x y)
+cmp_push : (xs ys : List ℕ) (x y : ℕ) → length xs ≡ length ys
+    → slice_cmp nat_cmp (xs ++ x ∷ []) (ys ++ y ∷ []) ≡ ordering_then (slice_cmp nat_cmp xs ys) (nat_cmp x y)
 cmp_push [] [] x y e = then_equal (nat_cmp x y)
 cmp_push [] (b ∷ ys) x y e = absurd (omega arith)
 cmp_push (a ∷ xs) [] x y e = absurd (omega arith)
 cmp_push (a ∷ xs) (b ∷ ys) x y e =
     ap (ordering_then (nat_cmp a b)) (cmp_push xs ys x y (omega arith)) ∙ sym (then_assoc (nat_cmp a b) (slice_cmp nat_cmp xs ys) (nat_cmp x y))
 
-split_is : (x y : ℕ) (o p : Ordering) → MatchOrdering o (x / 16 < y / 16) (x / 16 ≡ y / 16) (y / 16 < x / 16) → MatchOrdering p (x % 16 + 1 < y % 16 + 1) (x % 16 + 1 ≡ y % 16 + 1) (y % 16 + 1 < x % 16 + 1) → MatchOrdering (ordering_then o p) (x < y) (x ≡ y) (y < x)
+split_is : (x y : ℕ) (o p : Ordering) → MatchOrdering o (x / 16 < y / 16) (x / 16 ≡ y / 16) (y / 16 < x / 16)
+    → MatchOrdering p (x % 16 + 1 < y % 16 + 1) (x % 16 + 1 ≡ y % 16 + 1) (y % 16 + 1 < x % 16 + 1)
+    → MatchOrdering (ordering_then o p) (x < y) (x ≡ y) (y < x)
 split_is x y Less p h g = omega arith
 split_is x y Equal Less h g = omega arith
 split_is x y Equal Equal h g = omega arith
@@ -50,7 +53,8 @@ nat_cmp_split x y =
     (split_is x y (nat_cmp (x / 16) (y / 16)) (nat_cmp (x % 16 + 1) (y % 16 + 1)) (ranked (x / 16) (y / 16) (nat_cmp (x / 16) (y / 16)) refl) (ranked (x % 16 + 1) (y % 16 + 1) (nat_cmp (x % 16 + 1) (y % 16 + 1)) refl)))
 
 -- as numbers, where they have one length
-packed_cmp : (n x y : ℕ) → x < 16 ^ n → y < 16 ^ n → nat_cmp x y ≡ slice_cmp nat_cmp (reverse (bells_of n x)) (reverse (bells_of n y))
+packed_cmp : (n x y : ℕ) → x < 16 ^ n → y < 16 ^ n
+    → nat_cmp x y ≡ slice_cmp nat_cmp (reverse (bells_of n x)) (reverse (bells_of n y))
 packed_cmp zero x y h g = sym (nat_cmp_is x y Equal (omega arith))
 packed_cmp (suc n) x y h g =
     let long : length (reverse (bells_of n (x / 16))) ≡ length (reverse (bells_of n (y / 16))) =
@@ -59,7 +63,8 @@ packed_cmp (suc n) x y h g =
     ∙ sym (cmp_push (reverse (bells_of n (x / 16))) (reverse (bells_of n (y / 16))) (x % 16 + 1) (y % 16 + 1) long)
     ∙ sym (λ i. slice_cmp nat_cmp (reverse-append ((x % 16 + 1) ∷ []) (bells_of n (x / 16)) i) (reverse-append ((y % 16 + 1) ∷ []) (bells_of n (y / 16)) i))
 
-pub packed_row_cmp : (n m x y : ℕ) → x < 16 ^ n → y < 16 ^ m → ordering_then (nat_cmp n m) (nat_cmp x y) ≡ row_cmp (bells_of n x) (bells_of m y)
+pub packed_row_cmp : (n m x y : ℕ) → x < 16 ^ n → y < 16 ^ m
+    → ordering_then (nat_cmp n m) (nat_cmp x y) ≡ row_cmp (bells_of n x) (bells_of m y)
 packed_row_cmp n m x y h g =
     first_decides (nat_cmp n m) (nat_cmp x y) (slice_cmp nat_cmp (reverse (bells_of n x)) (reverse (bells_of m y)))
     (λ e. let same : n ≡ m = ranked n m Equal (sym e) in
@@ -67,7 +72,8 @@ packed_row_cmp n m x y h g =
     ∙ (λ i. ordering_then (nat_cmp (sym (bells_length n x) i) (sym (bells_length m y) i)) (slice_cmp nat_cmp (reverse (bells_of n x)) (reverse (bells_of m y))))
 
 -- packed rows are equal where the rows are
-pub packed_eq : (n m x y : ℕ) (a b : List ℕ) → x < 16 ^ n → y < 16 ^ m → bells_of n x ≡ a → bells_of m y ≡ b → (nat_eq x y && nat_eq n m) ≡ pointwise nat_eq a b
+pub packed_eq : (n m x y : ℕ) (a b : List ℕ) → x < 16 ^ n → y < 16 ^ m → bells_of n x ≡ a → bells_of m y ≡ b
+    → (nat_eq x y && nat_eq n m) ≡ pointwise nat_eq a b
 packed_eq n m x y a b h g seen other =
     let forth : (nat_eq x y && nat_eq n m) ≡ true → a ≡ b = λ e. (
     let parts = and_parts (nat_eq x y) (nat_eq n m) e in

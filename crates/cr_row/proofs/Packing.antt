@@ -25,7 +25,8 @@ more_room k bits d fits below digit =
     let most : 16 ^ k ≤ 16 ^ 15 = pow-le-pow_right {n = 16} (omega arith) {i = k} {j = 15} (omega arith) in
     omega arith
 
-pub Kept-more : (whole : List ℕ) (left bits : ℕ) → AreBells whole → 0 < left → Kept whole left bits → Kept whole (left - 1) (16 * bits + (get_or whole (left - 1) 0 - 1))
+pub Kept-more : (whole : List ℕ) (left bits : ℕ) → AreBells whole → 0 < left → Kept whole left bits
+    → Kept whole (left - 1) (16 * bits + (get_or whole (left - 1) 0 - 1))
 Kept-more whole left bits bells some kept =
     let n = length whole - left in
     let within : left ≤ length whole = kept.within in
@@ -65,7 +66,8 @@ Composed-none n first second = record {
   kept = Kept-none (product (bells_of n first) (bells_of n second)) n (length_composed n first second);
 }
 
-composed_bell : (n first second i a b : ℕ) → IsRow (bells_of n second) → i < n → a ≡ second / 2 ^ (4 * i) % 16 → b ≡ first / 2 ^ (4 * a) % 16 → get_or (product (bells_of n first) (bells_of n second)) i 0 - 1 ≡ b
+composed_bell : (n first second i a b : ℕ) → IsRow (bells_of n second) → i < n → a ≡ second / 2 ^ (4 * i) % 16
+    → b ≡ first / 2 ^ (4 * a) % 16 → get_or (product (bells_of n first) (bells_of n second)) i 0 - 1 ≡ b
 composed_bell n first second i a b row inside at is =
     let long = bells_length n second in
     let bell = row.in_range i (omega arith) in
@@ -75,7 +77,9 @@ composed_bell n first second i a b row inside at is =
     let whole : get_or (product (bells_of n first) (bells_of n second)) i 0 ≡ get_or (bells_of n first) a 0 = get_or-product (bells_of n first) (bells_of n second) i (omega arith) ∙ ap (λ k. get_or (bells_of n first) k 0) place in
     omega arith
 
-pub Composed-more : (n first second left bits a b : ℕ) → n ≤ 16 → IsRow (bells_of n first) → IsRow (bells_of n second) → 0 < left → a ≡ second / 2 ^ (4 * (left - 1)) % 16 → b ≡ first / 2 ^ (4 * a) % 16 → Composed n first second left bits → Composed n first second (left - 1) (16 * bits + b)
+pub Composed-more : (n first second left bits a b : ℕ) → n ≤ 16 → IsRow (bells_of n first)
+    → IsRow (bells_of n second) → 0 < left → a ≡ second / 2 ^ (4 * (left - 1)) % 16 → b ≡ first / 2 ^ (4 * a) % 16
+    → Composed n first second left bits → Composed n first second (left - 1) (16 * bits + b)
 Composed-more n first second left bits a b few one two some at is so_far =
     let long = length_composed n first second in
     let row : IsRow (product (bells_of n first) (bells_of n second)) = IsRow-product (bells_of n first) (bells_of n second) one two (bells_length n first ∙ sym (bells_length n second)) in
@@ -87,12 +91,14 @@ Composed-more n first second left bits a b few one two some at is so_far =
           (Kept-more (product (bells_of n first) (bells_of n second)) left bits bells some so_far.kept);
     }
 
-pub Composed-room : (n first second left bits d : ℕ) → n ≤ 16 → 0 < left → d < 16 → Composed n first second left bits → 16 * bits + d < 2 ^ 64
+pub Composed-room : (n first second left bits d : ℕ) → n ≤ 16 → 0 < left → d < 16
+    → Composed n first second left bits → 16 * bits + d < 2 ^ 64
 Composed-room n first second left bits d few some small so_far =
     let long = length_composed n first second in
     more_room (length (product (bells_of n first) (bells_of n second)) - left) bits d so_far.kept.fits (omega arith) small
 
-pub Composed-all : (n first second left bits : ℕ) → left ≡ 0 → Composed n first second left bits → (bells_of n bits ≡ product (bells_of n first) (bells_of n second)) × (bits < 16 ^ n)
+pub Composed-all : (n first second left bits : ℕ) → left ≡ 0 → Composed n first second left bits
+    → (bells_of n bits ≡ product (bells_of n first) (bells_of n second)) × (bits < 16 ^ n)
 Composed-all n first second left bits none so_far =
     let long = length_composed n first second in
     let all : length (product (bells_of n first) (bells_of n second)) - left ≡ n = omega arith in (

@@ -19,7 +19,8 @@ pub record IsElsewhere (row : List ℕ) (i b : ℕ) : Type 0 where
 abbrev others : List ℕ → ℕ → List ℕ
 others row i = map (λ b. b - 1) (remove row i)
 
-in_others : (row : List ℕ) (i q : ℕ) → i < length row → IsElsewhere row i (q + 1) → list_any (eqb q) (others row i) ≡ true
+in_others : (row : List ℕ) (i q : ℕ) → i < length row → IsElsewhere row i (q + 1)
+    → list_any (eqb q) (others row i) ≡ true
 in_others row i q inside elsewhere = elim (cases_lt elsewhere.at i) [
   | inl below ↦ found elsewhere.at (omega (arith, length-remove row i inside)) (get_or-remove_below row i 0 elsewhere.at below inside ∙ elsewhere.bell)
   | inr above ↦
@@ -31,7 +32,8 @@ in_others row i q inside elsewhere = elim (cases_lt elsewhere.at i) [
     ne_above : (k j : ℕ) → k ≢ j → j ≤ k → j < k
     ne_above k j other low = elim (cases_lt j k) [ inl less ↦ less | inr not' ↦ absurd (other (omega arith)) ]
 
-    found : (k : ℕ) → k < length (remove row i) → get_or (remove row i) k 0 ≡ q + 1 → list_any (eqb q) (others row i) ≡ true
+    found : (k : ℕ) → k < length (remove row i) → get_or (remove row i) k 0 ≡ q + 1
+        → list_any (eqb q) (others row i) ≡ true
     found k within is =
         let read : get_or (map (λ b. b - 1) (remove row i)) k 0 ≡ get_or (remove row i) k 0 - 1 = get_or-map (λ b. b - 1) (remove row i) k 0 0 within in
         list_any_at (eqb q) (map (λ b. b - 1) (remove row i)) k 0 (omega (arith, length-map (remove row i) (λ b. b - 1)))

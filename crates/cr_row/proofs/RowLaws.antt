@@ -26,7 +26,8 @@ get_or-product h r i in' = get_or-map (λ b. get_or h (b - 1) 0) r i 0 0 in'
 pub length-product : (h r : List ℕ) → length (product h r) ≡ length r
 length-product h r = length-map r (λ b. get_or h (b - 1) 0)
 
-product_reaches : (h r : List ℕ) (b place i : ℕ) → i < length r → get_or h place 0 ≡ b → get_or r i 0 ≡ place + 1 → get_or (product h r) i 0 ≡ b
+product_reaches : (h r : List ℕ) (b place i : ℕ) → i < length r → get_or h place 0 ≡ b → get_or r i 0 ≡ place + 1
+    → get_or (product h r) i 0 ≡ b
 product_reaches h r b place i within bell at =
     let spot : get_or r i 0 - 1 ≡ place = omega arith in
     get_or-product h r i within ∙ ap (λ k. get_or h k 0) spot ∙ bell
@@ -86,7 +87,8 @@ rounds-product r row =
     omega (arith, get_or-product (rounds (length r)) r i in', get_or-rounds (length r) (get_or r i 0 - 1) (omega arith)))
 
 -- rows cancel
-pub product_left : (h r s : List ℕ) → IsRow h → IsRow r → IsRow s → length r ≡ length h → length s ≡ length h → product h r ≡ product h s → r ≡ s
+pub product_left : (h r s : List ℕ) → IsRow h → IsRow r → IsRow s → length r ≡ length h → length s ≡ length h
+    → product h r ≡ product h s → r ≡ s
 product_left h r s whole one two long same e =
     ext_get_or 0 r s (long ∙ sym same) (λ i in'.
     let a = one.in_range i in' in
@@ -95,22 +97,26 @@ product_left h r s whole one two long same e =
     let places : get_or r i 0 - 1 ≡ get_or s i 0 - 1 = whole.apart (get_or r i 0 - 1) (get_or s i 0 - 1) (omega arith) (omega arith) bells in
     omega arith)
 
-pub product_right : (g h r : List ℕ) → IsRow r → length g ≡ length r → length h ≡ length r → product g r ≡ product h r → g ≡ h
+pub product_right : (g h r : List ℕ) → IsRow r → length g ≡ length r → length h ≡ length r
+    → product g r ≡ product h r → g ≡ h
 product_right g h r row long same e =
     ext_get_or 0 g h (long ∙ sym same) (λ k in'. (
     let (i, within, at) = row.reached (k + 1) (omega arith) (omega arith) in
     sym (product_reaches g r (get_or g k 0) k i within refl at) ∙ ap (λ l. get_or l i 0) e ∙ product_reaches h r (get_or h k 0) k i within refl at))
 
 -- a row that undoes another on the right does so on the left
-pub undone_back : (h r : List ℕ) → IsRow h → IsRow r → length h ≡ length r → product h r ≡ rounds (length h) → product r h ≡ rounds (length h)
+pub undone_back : (h r : List ℕ) → IsRow h → IsRow r → length h ≡ length r → product h r ≡ rounds (length h)
+    → product r h ≡ rounds (length h)
 undone_back h r one two same home =
     let row : IsRow (product r h) = IsRow-product r h two one (sym same) in
     let whole : product h (product r h) ≡ h = sym (product_assoc h r h one (sym same)) ∙ ap (λ l. product l h) home ∙ rounds-product h one in
     product_left h (product r h) (rounds (length h)) one row (IsRow-rounds (length h)) (length-product r h) (length-rounds (length h)) (whole ∙ sym (product-rounds h))
 
-pub inverse_right : (h r : List ℕ) → IsRow h → IsRow r → length h ≡ length r → product h r ≡ rounds (length h) → IsInverse h r
+pub inverse_right : (h r : List ℕ) → IsRow h → IsRow r → length h ≡ length r → product h r ≡ rounds (length h)
+    → IsInverse h r
 inverse_right h r one two same home = record { right = home; left = undone_back h r one two same home }
 
-pub inverse_left : (h r : List ℕ) → IsRow h → IsRow r → length h ≡ length r → product r h ≡ rounds (length h) → IsInverse h r
+pub inverse_left : (h r : List ℕ) → IsRow h → IsRow r → length h ≡ length r → product r h ≡ rounds (length h)
+    → IsInverse h r
 inverse_left h r one two same home =
     record { right = undone_back r h two one (sym same) (home ∙ ap rounds same) ∙ ap rounds (sym same); left = home }

@@ -2,7 +2,7 @@
 
 ghost use Rattle.std.specs.Prelude.{◌≡◌, ◌≢◌, ◌⊎◌, ℕ, ◌+◌, ◌-◌, ◌<◌, ◌≤◌, ◌^◌, ◌↔◌, true, false, nat_eq, IsOk, IfOk, IfErr};
 ghost use Rattle.std.specs.List.{list_any};
-ghost use Rattle.cr_row.specs.Rows.{Places, IsChange, changed};
+ghost use Rattle.cr_row.specs.Rows.{Places, IsChange, changed, is_made};
 ghost use Rattle.cr_row.specs.Packed.{bells_of};
 ghost use Rattle.cr_row.specs.Masks.{stay_of, first_of};
 ghost use Rattle.cr_row.specs.PlaceFaults.{IsPlaceFault};
@@ -67,7 +67,7 @@ impl Change {
     pub fn makes(&self, place: u8) -> bool
         requires from { 1 ≤ place }
         requires to { place ≤ self.now.stage }
-        ensures { result ≡ list_any (nat_eq place) self.now.made }
+        ensures { result ≡ is_made self.now place }
     {
         (self.stay >> (4 * (place - 1))) & 15 == 15
     }
@@ -165,11 +165,11 @@ fn stays(place: u8, stage: u8, places: &[u8]) -> bool
     ensures yes { result ≡ true → (place ≡ stage) ⊎ (list_any (nat_eq place) places.now ≡ true) }
     ensures no { result ≡ false → (place ≢ stage) × (list_any (nat_eq place) places.now ≡ false) }
 {
-    place == stage || is_made(place, places)
+    place == stage || is_one_of(place, places)
 }
 
 // Whether a place is one of those made.
-fn is_made(place: u8, places: &[u8]) -> bool
+fn is_one_of(place: u8, places: &[u8]) -> bool
     ensures { result ≡ list_any (nat_eq place) places.now }
 {
     places.iter().any(|made| *made == place)

@@ -1,4 +1,4 @@
-pub mod Ringing
+pub mod PlainLeads
 pub mod PlainTouches
 pub mod PlainBooks
 pub mod Steps

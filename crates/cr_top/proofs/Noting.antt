@@ -1,11 +1,12 @@
 -- Texts that are written one after another.
-use Rattle.std.specs.Prelude.{◌≡◌, ℕ, ℤ, pos, negsuc, nat_abs, int_lt, true, false, ◌+◌, ◌<◌, ◌≤◌, List, [], ◌∷◌, ◌++◌, length, take, map, get_or, Result, Ok, Err, IsErr}
-use Rattle.std.proofs.Common.{refl, ap, sym, ◌∙◌, subst, arith, length-append, append-nil, true≢false}
-use Rattle.std.specs.Fmt.{decimal, signed_decimal}
+use Rattle.std.specs.Prelude.{◌≡◌, ℕ, ◌+◌, ◌<◌, ◌≤◌, List, [], ◌∷◌, ◌++◌, length, take, drop, map, get_or}
+use Rattle.std.specs.Prelude.{Result, Ok, Err, IsErr}
+use Rattle.std.proofs.Common.{refl, ap, sym, ◌∙◌, subst, arith, append_assoc, length-append, append-nil, true≢false}
 use Rattle.std.proofs.Math.Seq.{take-append-add}
-use Rattle.std.proofs.lemmas.List.{take-append-le, take_more, take-map, map-append, length-map}
-use Rattle.std.proofs.lemmas.Bool.{ltb-true}
+use Rattle.std.proofs.lemmas.List.{take-append-le, take-append-drop, take_more, take-map, map-append, length-map}
+use Rattle.cr_top.specs.declared.piece.Piece.{Piece}
 use Rattle.cr_top.specs.Noted.{IsWritten}
+use Rattle.cr_top.specs.Pieces.{piece_text, text_of}
 
 -- what a sink appends in two parts is the one and then the other
 abbrev pub Chains : {S : Type 0} → (S → S → List ℕ → Type 0) → Type 0
@@ -75,11 +76,49 @@ each_stopped {grew = grew} chains a b c f xs i x e (Err g) within done is next =
       later = omega arith;
     }
 
--- a number below 0 is a sign and its distance from 0
-pub signed_below : (z : ℤ) → int_lt z (pos 0) ≡ true → signed_decimal z ≡ 45 ∷ decimal (nat_abs z)
-signed_below (pos n) is = let below : n < 0 = ltb-true n 0 is in absurd (omega arith)
-signed_below (negsuc n) is = refl
+-- a piece, and then those after it
+text_of-cons : (piece : Piece) (rest : List Piece) → text_of (piece ∷ rest) ≡ piece_text piece ++ text_of rest
+text_of-cons piece [] = sym (append-nil (piece_text piece))
+text_of-cons piece (next ∷ rest) = refl
 
-pub signed_from : (z : ℤ) → int_lt z (pos 0) ≡ false → signed_decimal z ≡ decimal (nat_abs z)
-signed_from (pos n) is = refl
-signed_from (negsuc n) is = absurd (true≢false is)
+text_of-append : (xs ys : List Piece) → text_of (xs ++ ys) ≡ text_of xs ++ text_of ys
+text_of-append [] ys = refl
+text_of-append (x ∷ xs) ys =
+    text_of-cons x (xs ++ ys) ∙ ap (λ text. piece_text x ++ text) (text_of-append xs ys)
+    ∙ sym (append_assoc (piece_text x) (text_of xs) (text_of ys)) ∙ ap (λ text. text ++ text_of ys) (sym (text_of-cons x xs))
+
+-- one piece more
+text_of-more : (xs : List Piece) (i : ℕ) (d : Piece) → i < length xs
+    → text_of (take (i + 1) xs) ≡ text_of (take i xs) ++ piece_text (get_or xs i d)
+text_of-more xs i d within = ap text_of (take_more xs i d within) ∙ text_of-append (take i xs) (get_or xs i d ∷ [])
+
+-- one piece more was written
+pub pieces_continued : {S T E : Type 0} {grew : S → S → List ℕ → Type 0} {faults : S → ℕ} → Chains grew
+    → (a b c : S) (xs : List Piece) (i : ℕ) (d : Piece) (v : T)
+    → i < length xs
+    → grew a b (text_of (take i xs)) × (faults a ≤ faults b)
+    → IsWritten {E = E} grew faults b c (Ok v) (piece_text (get_or xs i d))
+    → grew a c (text_of (take (i + 1) xs)) × (faults a ≤ faults c)
+pieces_continued {grew = grew} chains a b c xs i d v within done next =
+    (subst (grew a c) (sym (text_of-more xs i d within)) (chains a b c _ _ done.0 next.whole), omega arith)
+
+-- the next piece was not written whole
+pub pieces_stopped : {S T U E F : Type 0} {grew : S → S → List ℕ → Type 0} {faults : S → ℕ} → Chains grew
+    → (a b c : S) (xs : List Piece) (i : ℕ) (d : Piece) (e : E) (r : Result U F)
+    → i < length xs
+    → grew a b (text_of (take i xs)) × (faults a ≤ faults b) → IsErr r
+    → IsWritten {T = T} grew faults b c (Err e) (piece_text (get_or xs i d))
+    → IsWritten grew faults a c r (text_of xs)
+pieces_stopped {T = T} {E = E} {grew = grew} {faults = faults} chains a b c xs i d e r within done stops next =
+    let whole : (text_of (take i xs) ++ piece_text (get_or xs i d)) ++ text_of (drop (i + 1) xs) ≡ text_of xs =
+    ap (λ text. text ++ text_of (drop (i + 1) xs)) (sym (text_of-more xs i d within))
+    ∙ sym (text_of-append (take (i + 1) xs) (drop (i + 1) xs)) ∙ ap text_of (take-append-drop (i + 1) xs) in
+    let before : IsWritten {T = ℕ} {E = E} grew faults a b (Ok 0) (text_of (take i xs)) = record {
+      whole = done.0;
+      front = tt;
+      fault = tt;
+      later = done.1;
+    } in
+    let so_far : IsWritten {T = T} grew faults a c (Err e) (text_of (take i xs) ++ piece_text (get_or xs i d)) =
+    continued chains a b c _ _ 0 (Err e) before next in
+    subst (IsWritten grew faults a c r) whole (stopped a c _ (text_of (drop (i + 1) xs)) e r stops so_far)

@@ -7,8 +7,8 @@ use Rattle.cr_model.specs.Problems.{ProblemParts}
 use Rattle.cr_model.specs.Callings.{HasSteps, changes_of, changes_of_all, lead_length, shortest, rows_from, last_of, rows_of, length_of, head_of, AllDiffer}
 use Rattle.cr_model.specs.Queries.{cap, MeetsCom, repeated, changes_of_method}
 use Rattle.cr_model.specs.Touches.{Wanted}
-use Rattle.cr_model.specs.Sound.{IsSound}
-use Rattle.cr_top.proofs.Ringing.{shortest_plain, within}
+use Rattle.cr_model.specs.Sound.{IsSound, sound_leads, sound_depth}
+use Rattle.cr_top.proofs.PlainLeads.{shortest_plain, within}
 use Rattle.cr_top.specs.Plain.{IsPlain, plain_leads, ComesHome, IsCourse}
 
 -- each lead is plain
@@ -43,14 +43,14 @@ comes_home p plain calling wanted =
 
 -- the plain lead has changes
 pub lead_some : (p : ProblemParts) → IsSound p → 1 ≤ lead_length p 0
-lead_some p sound = (sound.leads.each 0 sound.leads.some).some
+lead_some p sound = let leads = sound_leads p sound in (leads.each 0 leads.some).changes.some
 
 -- there are no more leads than a calling takes
 pub few_leads : (p : ProblemParts) → IsSound p → IsPlain p → (number : ℕ) → ComesHome p number → number ≤ 1024
 few_leads p sound plain number home =
     let some : 1 ≤ shortest p = rw (shortest_plain p plain.lead) (lead_some p sound) in
     let most : number ≤ cap p / shortest p = (within p number (cap p) plain.lead some).1 home.short in
-    let shallow : cap p / shortest p ≤ 1024 = sound.shallow in
+    let shallow : cap p / shortest p ≤ 1024 = sound_depth p sound in
     omega arith
 
 -- as many rows as changes

@@ -2,5 +2,6 @@ pub mod Codes
 pub mod Endings
 pub mod Lines
 pub mod Noted
+pub mod Pieces
 pub mod Plain
 pub mod Words

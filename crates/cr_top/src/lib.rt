@@ -5,7 +5,9 @@ mod book;
 mod notes;
 #[cfg(test)]
 mod notes_tests;
+mod piece;
 mod search;
+mod searched;
 mod status;
 #[cfg(test)]
 mod tests;

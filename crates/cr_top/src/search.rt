@@ -1,6 +1,7 @@
 //! The book of a problem that has one plain lead.
 
-ghost use Rattle.std.specs.Prelude.{◌≡◌, ◌↔◌, ◌<◌, ◌≤◌, ℕ, List, [], ◌∷◌, ◌++◌, length, All, IsTrue, IfOk, MatchOption, pos, ◌≤ℤ◌};
+ghost use Rattle.std.specs.Prelude.{◌≡◌, ◌↔◌, ◌<◌, ◌≤◌, ℕ, List, [], ◌∷◌, ◌++◌, length, All, pos, ◌≤ℤ◌};
+ghost use Rattle.std.specs.Prelude.{IsTrue, IfOk, MatchOption};
 ghost use Rattle.std.specs.Option.{option_to_list};
 ghost use Rattle.cr_row.specs.Rows.{rounds};
 ghost use Rattle.cr_model.specs.Callings.{changes_of, rows_from, last_of, AllDiffer};
@@ -71,9 +72,10 @@ fn plain_touch(alloc: Global, problem: &Problem) -> Result<Option<Calling>, NoMe
 
 // Whether these rows are as many as the query asks for, and all differ.
 fn is_touch(alloc: Global, problem: &Problem, rows: &[Row]) -> Result<bool, NoMemory>
-    ensures { IfOk result (λ touch. IsTrue touch ↔ ((problem.now.query.min ≤ℤ pos (length rows.now)) × AllDiffer rows.now)) }
+    ensures { IfOk result (λ touch. IsTrue touch ↔
+        ((problem.now.query.min ≤ℤ pos (length rows.now)) × AllDiffer rows.now)) }
 {
-    let differ = all_differ(alloc, rows)?;
+    let differ = rows_differ(alloc, rows)?;
     Ok(differ && problem.query().min <= rows.len() as i64)
 }
 
@@ -147,7 +149,7 @@ fn ring(rows: &mut Vec<Row>, head: Row, changes: &[Change]) -> Result<Row, NoMem
 }
 
 // Whether no row stands twice.
-fn all_differ(alloc: Global, rows: &[Row]) -> Result<bool, NoMemory>
+fn rows_differ(alloc: Global, rows: &[Row]) -> Result<bool, NoMemory>
     ensures { IfOk result (λ differ. IsTrue differ ↔ AllDiffer rows.now) }
 {
     let mut seen = BTreeSet::new(alloc);

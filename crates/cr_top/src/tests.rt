@@ -1,359 +1,386 @@
+//! What no clause says: whole calls, from words and bytes to status, bytes and note, with ample memory.
+
 use super::ringsearch;
 use crate::book::calling_text;
-use crate::search::is_plain;
-use crate::top::searched;
 use cr_io::{MemSink, MemSource};
-use cr_model::{Lead, Problem, Query, Step};
-use cr_row::{Change, Stage};
-use std::process::Abort;
-use std::test::*;
+use cr_read::read_problem;
+use std::test::Fail;
 
-type Places = &'static [u8];
-
-fn stage_of(bells: u8) -> Result<Stage, Fail> {
-    Ok(Stage::new(bells).ok_or("the stage is from 3 to 16")?)
-}
-
-fn lead_of(rt: &HostRuntime, stage: Stage, step: Step, lead: &[Places]) -> Result<Lead, Fail> {
-    let mut changes = Vec::new(rt.alloc());
-    for places in lead {
-        let change = Change::from_places(stage, places)
-            .ok()
-            .ok_or("the places are a change's")?;
-        changes.push(change)?;
-    }
-    Ok(Lead { step, changes })
-}
-
-// A problem in one part, whose steps all have the same changes.
-fn problem_of(
-    rt: &HostRuntime,
-    bells: u8,
-    letters: &[u8],
-    steps: &[(u8, u8)],
-    lead: &[Places],
-    min: i64,
-    max: i64,
-) -> Result<Problem, Fail> {
-    let stage = stage_of(bells)?;
-    let mut leads = Vec::new(rt.alloc());
-    for (method, mark) in steps {
-        let step = Step {
-            method: *method,
-            mark: *mark,
-        };
-        leads.push(lead_of(rt, stage, step, lead)?)?;
-    }
-    let query = Query {
-        min,
-        max,
-        parts: 1,
-        counts: Vec::new(rt.alloc()),
-        method_counts: Vec::new(rt.alloc()),
-        patterns: Vec::new(rt.alloc()),
-        com: None,
-    };
-    Ok(
-        Problem::new(stage, letters.to_vec(rt.alloc())?, leads, query)
-            .ok()
-            .ok_or("the parts are a problem's")?,
-    )
-}
-
-const X: Places = &[];
-
-const MINIMUS: &[Places] = &[X, &[1, 4], X, &[1, 4], X, &[1, 4], X, &[1, 2]];
-
-const DOUBLES: &[Places] = &[
-    &[5],
-    &[1],
-    &[5],
-    &[1],
-    &[5],
-    &[1],
-    &[5],
-    &[1],
-    &[5],
-    &[1, 2, 5],
-];
-
-const GRANDSIRE: &[Places] = &[&[3], &[1], &[5], &[1], &[5], &[1], &[5], &[1], &[5], &[1]];
-
-const MINOR: &[Places] = &[
-    X,
-    &[1, 6],
-    X,
-    &[1, 6],
-    X,
-    &[1, 6],
-    X,
-    &[1, 6],
-    X,
-    &[1, 6],
-    X,
-    &[1, 2],
-];
-
-const TRIPLES: &[Places] = &[
-    &[7],
-    &[1],
-    &[7],
-    &[1],
-    &[7],
-    &[1],
-    &[7],
-    &[1],
-    &[7],
-    &[1],
-    &[7],
-    &[1],
-    &[7],
-    &[1, 2, 7],
-];
-
-const MAJOR: &[Places] = &[
-    X,
-    &[1, 8],
-    X,
-    &[1, 8],
-    X,
-    &[1, 8],
-    X,
-    &[1, 8],
-    X,
-    &[1, 8],
-    X,
-    &[1, 8],
-    X,
-    &[1, 8],
-    X,
-    &[1, 2],
+// Which case it is, the stage, the method, the least and the greatest length, and the book.
+const BOOKS: [(&str, u8, &str, u32, u32, &str); 21] = [
+    (
+        "Plain Bob Minimus",
+        4,
+        "x14x14,12",
+        1,
+        24,
+        "24 ppp\ntouches 1\n",
+    ),
+    (
+        "as long as min",
+        4,
+        "x14x14,12",
+        24,
+        12_000,
+        "24 ppp\ntouches 1\n",
+    ),
+    ("above max", 4, "x14x14,12", 1, 23, "touches 0\n"),
+    ("below min", 4, "x14x14,12", 25, 12_000, "touches 0\n"),
+    (
+        "Plain Bob Doubles",
+        5,
+        "5.1.5.1.5,125",
+        1,
+        120,
+        "40 pppp\ntouches 1\n",
+    ),
+    (
+        "Grandsire Doubles",
+        5,
+        "3,1.5.1.5.1",
+        1,
+        120,
+        "30 ppp\ntouches 1\n",
+    ),
+    (
+        "Plain Bob Minor",
+        6,
+        "x16x16x16,12",
+        1,
+        720,
+        "60 ppppp\ntouches 1\n",
+    ),
+    (
+        "Plain Bob Triples",
+        7,
+        "7.1.7.1.7.1.7,127",
+        1,
+        5_040,
+        "84 pppppp\ntouches 1\n",
+    ),
+    (
+        "Plain Bob Major",
+        8,
+        "x18x18x18x18,12",
+        1,
+        12_000,
+        "112 ppppppp\ntouches 1\n",
+    ),
+    ("a cross", 4, "x", 1, 24, "2 pp\ntouches 1\n"),
+    ("a cross, as long as max", 4, "x", 1, 2, "2 pp\ntouches 1\n"),
+    ("a cross, above max", 4, "x", 1, 1, "touches 0\n"),
+    ("a cross, below min", 4, "x", 3, 24, "touches 0\n"),
+    ("two crosses", 4, "xx", 1, 24, "2 p\ntouches 1\n"),
+    ("Plain Hunt Singles", 3, "3.1", 1, 6, "6 ppp\ntouches 1\n"),
+    (
+        "Plain Hunt Singles, above max",
+        3,
+        "3.1",
+        1,
+        5,
+        "touches 0\n",
+    ),
+    ("no bell moves", 3, "123", 1, 6, "1 p\ntouches 1\n"),
+    (
+        "a row twice in a lead, and no lead's end",
+        4,
+        "x14.14.12",
+        1,
+        24,
+        "touches 0\n",
+    ),
+    ("rounds within a lead", 4, "xxx", 1, 24, "touches 0\n"),
+    (
+        "rounds at the eighth change of ten",
+        4,
+        "x14x14x14x14x14",
+        1,
+        24,
+        "touches 0\n",
+    ),
+    ("rounds come twice in six", 3, "3.1.3", 1, 6, "touches 0\n"),
 ];
 
 #[test]
 fn books_of_one_plain_lead(rt: HostRuntime) -> Result<(), Fail> {
-    let table: [(u8, &[Places], i64, i64, &[u8]); 21] = [
-        (4, MINIMUS, 1, 24, b"24 ppp\ntouches 1\n"),
-        (4, MINIMUS, 24, 12_000, b"24 ppp\ntouches 1\n"),
-        (4, MINIMUS, 1, 23, b"touches 0\n"),
-        (4, MINIMUS, 25, 12_000, b"touches 0\n"),
-        (5, DOUBLES, 1, 120, b"40 pppp\ntouches 1\n"),
-        (5, GRANDSIRE, 1, 120, b"30 ppp\ntouches 1\n"),
-        (6, MINOR, 1, 720, b"60 ppppp\ntouches 1\n"),
-        (7, TRIPLES, 1, 5040, b"84 pppppp\ntouches 1\n"),
-        (8, MAJOR, 1, 12_000, b"112 ppppppp\ntouches 1\n"),
-        (4, &[X], 1, 24, b"2 pp\ntouches 1\n"),
-        (4, &[X], 1, 2, b"2 pp\ntouches 1\n"),
-        (4, &[X], 1, 1, b"touches 0\n"),
-        (4, &[X], 3, 24, b"touches 0\n"),
-        (4, &[X, X], 1, 24, b"2 p\ntouches 1\n"),
-        (3, &[&[3], &[1]], 1, 6, b"6 ppp\ntouches 1\n"),
-        (3, &[&[3], &[1]], 1, 5, b"touches 0\n"),
-        (3, &[&[1, 2, 3]], 1, 6, b"1 p\ntouches 1\n"),
-        // A row twice in a lead, and in no lead's end.
-        (4, &[X, &[1, 4], &[1, 4], &[1, 2]], 1, 24, b"touches 0\n"),
-        // Rounds within a lead.
-        (4, &[X, X, X], 1, 24, b"touches 0\n"),
-        (
-            4,
-            &[X, &[1, 4], X, &[1, 4], X, &[1, 4], X, &[1, 4], X, &[1, 4]],
-            1,
-            24,
-            b"touches 0\n",
-        ),
-        (3, &[&[3], &[1], &[3]], 1, 6, b"touches 0\n"),
-    ];
-    for (bells, lead, min, max, want) in table {
-        let problem = problem_of(&rt, bells, b"A", &[(0, b'p')], lead, min, max)?;
-        assert!(rt; is_plain(&problem));
-        let Ok(text) = searched(rt.alloc(), &problem) else {
-            return Err(Fail::from("no memory"));
-        };
-        assert_eq!(rt; text.as_slice(), want, "{bells} bells, {min} to {max}");
+    for (name, stage, notation, min, max, book) in BOOKS {
+        let input = format!(in rt.alloc();
+            "stage = {stage}
+[[method]]
+letter = \"A\"
+notation = \"{notation}\"
+[query]
+min = {min}
+max = {max}
+"
+        )?;
+        run(&rt, (name, &[], &input, (0, 0, 0), 0, book, ""))?;
     }
     Ok(())
 }
+
+// Which case it is, the words, the input, which call of the source, of the sink and of the notes fails,
+// and the status, what is written, and the note.
+type Call<'a> = (
+    &'static str,
+    &'a [&'a str],
+    &'a str,
+    (u64, u64, u64),
+    u8,
+    &'a str,
+    &'a str,
+);
+
+const MINIMUS: &str = "stage = 4
+[[method]]
+letter = \"A\"
+notation = \"x14x14,12\"
+[query]
+min = 1
+max = 24
+";
+
+const BOBS: &str = "stage = 5
+[[method]]
+letter = \"A\"
+notation = \"5.1.5.1.5,125\"
+[[call]]
+mark = \"b\"
+notation = \"145\"
+[query]
+min = 1
+max = 120
+";
+
+const DEEP: &str = "stage = 8
+[[method]]
+letter = \"A\"
+notation = \"x\"
+[query]
+min = 1
+max = 1025
+";
+
+const ODD: &str = "stage = 5
+[[method]]
+letter = \"A\"
+notation = \"x14\"
+[query]
+min = 1
+max = 24
+";
+
+const DONE: &str = "24 ppp\ntouches 1\n";
+
+const CALLS: [Call<'static>; 17] = [
+    ("no words", &[], MINIMUS, (0, 0, 0), 0, DONE, ""),
+    (
+        "both words",
+        &["--do", "search"],
+        MINIMUS,
+        (0, 0, 0),
+        0,
+        DONE,
+        "",
+    ),
+    (
+        "another mode",
+        &["--do", "make"],
+        MINIMUS,
+        (0, 0, 0),
+        2,
+        "",
+        "ringsearch: words 1 Line\n",
+    ),
+    (
+        "no mode",
+        &["--do"],
+        MINIMUS,
+        (0, 0, 0),
+        2,
+        "",
+        "ringsearch: words 1 Line\n",
+    ),
+    (
+        "one word more",
+        &["--do", "search", ""],
+        MINIMUS,
+        (0, 0, 0),
+        2,
+        "",
+        "ringsearch: words 1 Line\n",
+    ),
+    (
+        "a call",
+        &[],
+        BOBS,
+        (0, 0, 0),
+        90,
+        "",
+        "ringsearch: unbuilt\n",
+    ),
+    (
+        "a checkpoint",
+        &[],
+        "ringsearch checkpoint 1\n",
+        (0, 0, 0),
+        90,
+        "",
+        "ringsearch: unbuilt\n",
+    ),
+    (
+        "no TOML",
+        &[],
+        "stage =",
+        (0, 0, 0),
+        4,
+        "",
+        "ringsearch: problem 1 NotToml\n",
+    ),
+    (
+        "nothing",
+        &[],
+        "",
+        (0, 0, 0),
+        4,
+        "",
+        "ringsearch: problem 2 Key stage\n",
+    ),
+    (
+        "too deep",
+        &[],
+        DEEP,
+        (0, 0, 0),
+        4,
+        "",
+        "ringsearch: problem 12 Deep 1025\n",
+    ),
+    (
+        "odd",
+        &[],
+        ODD,
+        (0, 0, 0),
+        4,
+        "",
+        "ringsearch: problem 5 Notation method 0 CrossOnOdd 0\n",
+    ),
+    (
+        "the first read fails",
+        &[],
+        MINIMUS,
+        (1, 0, 0),
+        6,
+        "",
+        "ringsearch: read failed\n",
+    ),
+    (
+        "the second read fails",
+        &[],
+        MINIMUS,
+        (2, 0, 0),
+        6,
+        "",
+        "ringsearch: read failed\n",
+    ),
+    (
+        "the first write fails",
+        &[],
+        MINIMUS,
+        (0, 1, 0),
+        7,
+        "",
+        "ringsearch: write failed\n",
+    ),
+    (
+        "the second write fails",
+        &[],
+        MINIMUS,
+        (0, 2, 0),
+        7,
+        "24 ppp\ntou",
+        "ringsearch: write failed\n",
+    ),
+    ("the note fails too", &[], MINIMUS, (1, 0, 1), 6, "", ""),
+    (
+        "the note's number fails",
+        &[],
+        DEEP,
+        (0, 0, 3),
+        4,
+        "",
+        "ringsearch: problem 12 Deep ",
+    ),
+];
+
+#[test]
+fn words_inputs_and_faults(rt: HostRuntime) -> Result<(), Fail> {
+    for call in CALLS {
+        run(&rt, call)?;
+    }
+    Ok(())
+}
+
+// One call of the whole. The source gives at most 50 bytes at a time, the sink takes at most 10. Err with
+// the name of the case where anything differs.
+fn run<R: AllocGlobal>(rt: &R, call: Call) -> Result<(), Fail> {
+    let (name, words, input, (read, write, note), code, written, noted) = call;
+    let alloc = rt.alloc();
+    let mut list = Vec::new(alloc);
+    for word in words {
+        list.push(String::from_str(alloc, word)?)?;
+    }
+    let bytes = input.as_bytes().to_vec(alloc)?;
+    let mut source = MemSource::new(bytes, [read].to_vec(alloc)?, 50);
+    let mut sink = MemSink::new(alloc, [write].to_vec(alloc)?, 10);
+    let mut notes = MemSink::new(alloc, [note].to_vec(alloc)?, 100);
+    let status = ringsearch(rt, &list, &mut source, &mut sink, &mut notes);
+    if status.code() == code
+        && sink.bytes() == Some(written.as_bytes())
+        && notes.bytes() == Some(noted.as_bytes())
+    {
+        Ok(())
+    } else {
+        Err(Fail::from(name))
+    }
+}
+
+const TWO_METHODS: &[u8] = b"stage = 4
+[[method]]
+letter = \"X\"
+notation = \"x14\"
+[[method]]
+letter = \"K\"
+notation = \"x12\"
+[[call]]
+mark = \"b\"
+notation = \"14\"
+[query]
+min = 1
+max = 24
+";
+
+// Which steps are rung, and the calling's text. The steps are p and b of X, and then those of K.
+const CALLINGS: [(&[u8], &str); 4] = [
+    (&[], ""),
+    (&[0], "Xp"),
+    (&[3, 0, 1, 2], "KbXpXbKp"),
+    (&[2, 2], "KpKp"),
+];
 
 #[test]
 fn texts_of_several_steps(rt: HostRuntime) -> Result<(), Fail> {
-    let one = problem_of(&rt, 4, b"A", &[(0, b'p'), (0, b'b')], MINIMUS, 1, 24)?;
-    let two = problem_of(
-        &rt,
-        4,
-        b"XK",
-        &[(0, b'p'), (0, b'b'), (1, b'p')],
-        MINIMUS,
-        1,
-        24,
-    )?;
-    assert!(rt; !is_plain(&one) && !is_plain(&two));
-    let table: [(&Problem, &[u8], &[u8]); 4] = [
-        (&one, &[], b""),
-        (&one, &[0, 1, 1, 0], b"pbbp"),
-        (&two, &[0, 1, 2], b"XpXbKp"),
-        (&two, &[2], b"Kp"),
-    ];
-    for (problem, steps, want) in table {
-        assert!(rt; problem.has_steps(steps));
-        let text = calling_text(rt.alloc(), problem, steps)?;
-        assert_eq!(rt; text.as_slice(), want);
+    let problem = match read_problem(rt.alloc(), TWO_METHODS) {
+        Ok(problem) => problem,
+        Err(_) => return Err(Fail::from("the file is a problem's")),
+    };
+    for (steps, want) in CALLINGS {
+        if !problem.has_steps(steps) {
+            return Err(Fail::from(want));
+        }
+        let text = calling_text(rt.alloc(), &problem, steps)?;
+        if text.as_slice() != want.as_bytes() {
+            return Err(Fail::from(want));
+        }
     }
     Ok(())
-}
-
-const MINIMUS_FILE: &str =
-    "stage = 4\n[[method]]\nletter = \"A\"\nnotation = \"x14x14,12\"\n[query]\nmin = 1\nmax = 24\n";
-
-const SHORTER: &str =
-    "stage = 4\n[[method]]\nletter = \"A\"\nnotation = \"x14x14x14x12\"\n[query]\nmin = 1\nmax = 23\n";
-
-const GRANDSIRE_FILE: &str =
-    "stage = 5\n[[method]]\nletter = \"G\"\nnotation = \"3,1.5.1.5.1\"\nname = \"Grandsire\"\n[query]\nmin = 1\nmax = 30\nparts = 1\n";
-
-const BOBS: &str =
-    "stage = 5\n[[method]]\nletter = \"A\"\nnotation = \"5.1.5.1.5,125\"\n[[call]]\nmark = \"b\"\nnotation = \"145\"\n[query]\nmin = 1\nmax = 120\n";
-
-const DEEP: &str =
-    "stage = 8\n[[method]]\nletter = \"A\"\nnotation = \"x\"\n[query]\nmin = 1\nmax = 1025\n";
-
-const ODD: &str =
-    "stage = 5\n[[method]]\nletter = \"A\"\nnotation = \"x14\"\n[query]\nmin = 1\nmax = 24\n";
-
-const DONE: &[u8] = b"24 ppp\ntouches 1\n";
-
-// What a call of the whole leaves: the status' code, what was written, and the note.
-#[derive(Drop)]
-struct Ended {
-    code: u8,
-    written: &'static [u8],
-    note: &'static [u8],
-}
-
-// One call of the whole, with the numbers of the calls of the source, the sink and the notes that fail.
-fn run<R: AllocGlobal + Abort>(
-    rt: &R,
-    words: &[&str],
-    input: &str,
-    fails: (u64, u64, u64),
-    want: &Ended,
-) -> Result<(), Fail> {
-    let mut list = Vec::new(rt.alloc());
-    for word in words {
-        list.push(String::from_str(rt.alloc(), word)?)?;
-    }
-    let bytes = input.as_bytes().to_vec(rt.alloc())?;
-    let mut source = MemSource::new(bytes, [fails.0].to_vec(rt.alloc())?, 50);
-    let mut sink = MemSink::new(rt.alloc(), [fails.1].to_vec(rt.alloc())?, 10);
-    let mut notes = MemSink::new(rt.alloc(), [fails.2].to_vec(rt.alloc())?, 100);
-    let status = ringsearch(rt, &list, &mut source, &mut sink, &mut notes);
-    assert_eq!(rt; status.code(), want.code);
-    assert_eq!(rt; sink.bytes(), Some(want.written));
-    assert_eq!(rt; notes.bytes(), Some(want.note));
-    Ok(())
-}
-
-#[test]
-fn runs_from_bytes_to_bytes(rt: HostRuntime) -> Result<(), Fail> {
-    let table: [(&'static str, u8, &'static [u8], &'static [u8]); 9] = [
-        (MINIMUS_FILE, 0, DONE, b""),
-        (SHORTER, 0, b"touches 0\n", b""),
-        (GRANDSIRE_FILE, 0, b"30 ppp\ntouches 1\n", b""),
-        (BOBS, 90, b"", b"ringsearch: unbuilt\n"),
-        (
-            "ringsearch checkpoint 1\n",
-            90,
-            b"",
-            b"ringsearch: unbuilt\n",
-        ),
-        ("stage =", 4, b"", b"ringsearch: problem 1 NotToml\n"),
-        ("", 4, b"", b"ringsearch: problem 2 Key stage\n"),
-        (DEEP, 4, b"", b"ringsearch: problem 12 Deep 1025\n"),
-        (
-            ODD,
-            4,
-            b"",
-            b"ringsearch: problem 5 Notation method 0 CrossOnOdd 0\n",
-        ),
-    ];
-    for (input, code, written, note) in table {
-        run(
-            &rt,
-            &[],
-            input,
-            (0, 0, 0),
-            &Ended {
-                code,
-                written,
-                note,
-            },
-        )?;
-    }
-    Ok(())
-}
-
-const ENDED_WELL: Ended = Ended {
-    code: 0,
-    written: DONE,
-    note: b"",
-};
-
-const REFUSED_WORDS: Ended = Ended {
-    code: 2,
-    written: b"",
-    note: b"ringsearch: words 1 Line\n",
-};
-
-const NOT_READ: Ended = Ended {
-    code: 6,
-    written: b"",
-    note: b"ringsearch: read failed\n",
-};
-
-const NOT_WRITTEN: Ended = Ended {
-    code: 7,
-    written: b"",
-    note: b"ringsearch: write failed\n",
-};
-
-const HALF_WRITTEN: Ended = Ended {
-    code: 7,
-    written: b"24 ppp\ntou",
-    note: b"ringsearch: write failed\n",
-};
-
-const NOT_NOTED: Ended = Ended {
-    code: 6,
-    written: b"",
-    note: b"",
-};
-
-#[test]
-fn words_and_faults(rt: HostRuntime) -> Result<(), Fail> {
-    run(
-        &rt,
-        &["--do", "search"],
-        MINIMUS_FILE,
-        (0, 0, 0),
-        &ENDED_WELL,
-    )?;
-    run(
-        &rt,
-        &["--do", "make"],
-        MINIMUS_FILE,
-        (0, 0, 0),
-        &REFUSED_WORDS,
-    )?;
-    run(&rt, &["--do"], MINIMUS_FILE, (0, 0, 0), &REFUSED_WORDS)?;
-    run(
-        &rt,
-        &["--do", "search", ""],
-        MINIMUS_FILE,
-        (0, 0, 0),
-        &REFUSED_WORDS,
-    )?;
-    run(&rt, &[], MINIMUS_FILE, (1, 0, 0), &NOT_READ)?;
-    run(&rt, &[], MINIMUS_FILE, (2, 0, 0), &NOT_READ)?;
-    run(&rt, &[], MINIMUS_FILE, (0, 1, 0), &NOT_WRITTEN)?;
-    run(&rt, &[], MINIMUS_FILE, (0, 2, 0), &HALF_WRITTEN)?;
-    run(&rt, &[], MINIMUS_FILE, (1, 0, 1), &NOT_NOTED)
 }

@@ -1,19 +1,17 @@
 //! The top call.
 
-ghost use Rattle.std.specs.Prelude.{◌≡◌, ◌≢◌, ℕ, ◌^◌, ◌≤◌, ◌⊎◌, ◌↔◌, Some, List, [], ◌∷◌, length, map, string_bytes, IfOk};
+ghost use Rattle.std.specs.Prelude.{◌≡◌, ℕ, ◌≤◌, ◌⊎◌, ◌↔◌, Some, List, [], map, string_bytes};
 ghost use Rattle.cr_io.specs.Causes.{Rose};
 ghost use Rattle.cr_model.specs.ProblemFiles.{ProblemFile};
-ghost use Rattle.cr_model.specs.Books.{IsBook, book_text};
 ghost use Rattle.cr_top.specs.Words.{IsAccepted};
-ghost use Rattle.cr_top.specs.Plain.{IsPlain};
 ghost use Rattle.cr_top.specs.Lines.{note_line};
 ghost use Rattle.cr_top.specs.Noted.{AppendsFront};
-ghost use Rattle.cr_top.specs.Endings.{IsCheckpoint, IsBuilt, IsBookOf, ReadsInput, MakesText, Ends};
+ghost use Rattle.cr_top.specs.Endings.{IsCheckpoint, IsBuilt, IsDue, ReadsInput, MakesText, Ends};
 
 use crate::Status;
-use crate::book::book_text;
 use crate::notes::write_note;
-use crate::search::{is_plain, plain_book};
+use crate::search::is_plain;
+use crate::searched::searched;
 use crate::words::are_accepted;
 use cr_io::{ReadEnd, Sink, Source, WriteFault, read_all, write_whole};
 use cr_model::{Problem, ProblemFault};
@@ -24,9 +22,11 @@ use std::alloc::Global;
 // The most bytes that an input may have, 2^40.
 const MOST_BYTES: u64 = 1_099_511_627_776;
 
-/// Does all that the program does: reads a problem from the source, searches it, and writes its book to the sink.
+/// Does all that the program does: reads a problem from the source, searches it, and writes its book
+/// to the sink.
 ///
-/// Nothing is written before the whole text is made. Each status but `Finished` writes its line to the notes; a fault of theirs ends the line and changes no status.
+/// Nothing is written before the whole text is made. Each status but `Finished` writes its line to the
+/// notes; a fault of theirs ends the line and changes no status.
 pub fn ringsearch<R: AllocGlobal, S: Source, K: Sink, N: Sink>(
     rt: &R,
     words: &[String],
@@ -35,12 +35,20 @@ pub fn ringsearch<R: AllocGlobal, S: Source, K: Sink, N: Sink>(
     notes: &mut N,
 ) -> Status
     ensures words { result ≡ Status.Words ↔ (IsAccepted (map string_bytes words.now) → ⊥) }
-    ensures ends { Ends S.took S.left S.faults source.old source.new K.grew K.faults sink.old sink.new result }
-    ensures complete { IsAccepted (map string_bytes words.now) → (input : List ℕ) → S.left source.old ≡ Some input → IsBuilt input
-        → (Rose (S.faults source.old) (S.faults source.new) → ⊥) → (Rose (K.faults sink.old) (K.faults sink.new) → ⊥)
-        → (result ≡ Status.Finished) ⊎ (result ≡ Status.NoMemory) }
+    ensures ends { Ends S.took S.left S.faults source.old source.new
+        K.grew K.faults sink.old sink.new result }
+    ensures complete { IsAccepted (map string_bytes words.now) →
+        (input : List ℕ) → S.left source.old ≡ Some input → IsBuilt input →
+        (Rose (S.faults source.old) (S.faults source.new) → ⊥) →
+        (Rose (K.faults sink.old) (K.faults sink.new) → ⊥) →
+        (result ≡ Status.Finished) ⊎ (result ≡ Status.NoMemory) }
+    ensures refuses { IsAccepted (map string_bytes words.now) →
+        (input : List ℕ) → S.left source.old ≡ Some input → (due : Status) → IsDue input due →
+        (Rose (S.faults source.old) (S.faults source.new) → ⊥) →
+        (result ≡ due) ⊎ (result ≡ Status.NoMemory) }
     ensures noted { AppendsFront N.grew notes.old notes.new (note_line result) }
-    ensures noted_whole { (Rose (N.faults notes.old) (N.faults notes.new) → ⊥) → N.grew notes.old notes.new (note_line result) }
+    ensures noted_whole { (Rose (N.faults notes.old) (N.faults notes.new) → ⊥) →
+        N.grew notes.old notes.new (note_line result) }
     ensures silent { result ≡ Status.Finished → notes.new ≡ notes.old }
     ensures source_later { S.faults source.old ≤ S.faults source.new }
     ensures sink_later { K.faults sink.old ≤ K.faults sink.new }
@@ -60,7 +68,8 @@ fn ended<S: Source, K: Sink>(
     sink: &mut K,
 ) -> Status
     ensures words { result ≡ Status.Words ↔ (IsAccepted (map string_bytes words.now) → ⊥) }
-    ensures ends { Ends S.took S.left S.faults source.old source.new K.grew K.faults sink.old sink.new result }
+    ensures ends { Ends S.took S.left S.faults source.old source.new
+        K.grew K.faults sink.old sink.new result }
     ensures source_later { S.faults source.old ≤ S.faults source.new }
     ensures sink_later { K.faults sink.old ≤ K.faults sink.new }
 {
@@ -120,13 +129,4 @@ fn text_of(alloc: Global, input: &[u8], problem: &Problem) -> Result<Vec<u8>, St
         Ok(text) => Ok(text),
         Err(NoMemory) => Err(Status::NoMemory),
     }
-}
-
-/// The text of the book of a problem that the search takes.
-pub fn searched(alloc: Global, problem: &Problem) -> Result<Vec<u8>, NoMemory>
-    requires { IsPlain problem.now }
-    ensures { IfOk result (λ text. (book : List (List ℕ)) × IsBook problem.now [] ([] ∷ []) book × (text.items ≡ book_text problem.now book)) }
-{
-    let book = plain_book(alloc, problem)?;
-    book_text(alloc, problem, &book)
 }

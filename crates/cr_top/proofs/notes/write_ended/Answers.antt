@@ -2,9 +2,7 @@ use Rattle.cr_top.proofs.Noting.{continued, stopped}
 use Rattle.cr_top.proofs.notes.write_ended.Goals as goal
 
 pub returns : goal.returns
-returns g c =
-    continued g.met.N.Sink.chains _ _ _ _ _ _ _ c.in_ok-write_text.ensures c.write_text-2.ensures
+returns g c = continued g.met.N.Sink.chains _ _ _ _ _ _ _ c.in_ok-write_pieces.ensures c.write_text.ensures
 
-pub returns-in_err-write_text : goal.returns-in_err-write_text
-returns-in_err-write_text g c =
-    stopped _ _ _ _ _ _ c.from_residual.ensures.0 c.in_err-write_text.ensures
+pub returns-in_err-write_pieces : goal.returns-in_err-write_pieces
+returns-in_err-write_pieces g c = stopped _ _ _ _ _ _ c.from_residual.ensures.0 c.in_err-write_pieces.ensures

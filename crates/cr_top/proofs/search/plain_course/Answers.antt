@@ -6,7 +6,7 @@ use Rattle.cr_row.specs.Rows.{rounds}
 use Rattle.cr_model.specs.Callings.{shortest, head_of}
 use Rattle.cr_model.specs.Queries.{cap}
 use Rattle.cr_top.specs.Plain.{plain_leads}
-use Rattle.cr_top.proofs.Ringing.{within, head_next, rows_next}
+use Rattle.cr_top.proofs.PlainLeads.{within, head_next, rows_next}
 use Rattle.cr_top.proofs.search.plain_course.Goals as goal
 
 pub loop-rung-init : goal.loop-rung-init

@@ -1,7 +1,7 @@
 use Rattle.std.proofs.Common.{◌≡◌, ◌+◌, ◌++◌, [], ◌∷◌, drop, sym, ap, ◌∙◌, arith, append_assoc}
 use Rattle.cr_row.specs.Rows.{after}
 use Rattle.cr_model.specs.Callings.{rows_from, last_of}
-use Rattle.cr_top.proofs.Ringing.{next_change}
+use Rattle.cr_top.proofs.PlainLeads.{next_change}
 use Rattle.cr_top.proofs.search.ring.Goals as goal
 
 pub loop-change-preserved : goal.loop-change-preserved

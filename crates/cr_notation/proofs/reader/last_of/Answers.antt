@@ -1,6 +1,0 @@
-use Rattle.std.proofs.Common.{◌∙◌}
-use Rattle.cr_notation.proofs.Named.{last_read}
-use Rattle.cr_notation.proofs.reader.last_of.Goals as goal
-
-pub returns : goal.returns
-returns c = last_read c.args.named.now.items c.len.result c.index.result.now c.requires (c.len.ensures ∙ c.args.named.now.ok.0) c.index.ensures

@@ -1,0 +1,172 @@
+//! The period of a word that grows and shrinks at its end.
+
+ghost use Rattle.std.specs.Prelude.{◌≡◌, ◌+◌, ◌-◌, ◌<◌, ◌≤◌, ℕ, ◌↔◌, List, [], ◌∷◌, ◌++◌, length, take, IsTrue, IfOk, vec_len, vec_capacity};
+ghost use Rattle.cr_model.specs.Turning.{TurnsBack, IsLeastRotation};
+ghost use Rattle.cr_rotate.specs.Fronts.{FrontRepeats, IsKept, Tells};
+
+use cr_row::NoMemory;
+use std::alloc::Global;
+use std::marker::Model;
+
+// The most steps that a word has.
+const ROOM: usize = 1024;
+
+/// A word of at most 1,024 steps, with the period of each of its fronts.
+///
+/// It is seen as its list of steps. It tells in constant time whether the word turns back, and whether
+/// it is the least of its rotations.
+#[derive(Drop)]
+pub struct Period {
+    steps: Vec<u8>,
+    // Of each front that does not turn back its period, and of the others 0.
+    periods: Vec<u16>,
+}
+
+impl Model for Period {
+    ghost use Rattle.std.specs.Prelude.{ℕ, ◌≤◌, List, vec_capacity};
+    ghost use Rattle.cr_rotate.specs.Fronts.{IsKept};
+
+    ghost Value = { List ℕ };
+
+    ghost view = { λ p. p.steps.items };
+
+    ghost invariant = { λ p. IsKept p.steps.items p.periods.items × (1024 ≤ vec_capacity p.steps) × (1024 ≤ vec_capacity p.periods) };
+}
+
+impl Period {
+    /// The empty word. All memory that a longer one needs is taken here.
+    #[tactic(auto, using(crate::proofs::Kept::none_kept))]
+    pub fn new(alloc: Global) -> Result<Period, NoMemory>
+        ensures { IfOk result (λ period. period ≡ []) }
+    {
+        let steps = Vec::with_capacity(alloc, ROOM)?;
+        let periods = Vec::with_capacity(alloc, ROOM)?;
+        Ok(Period { steps, periods })
+    }
+
+    /// The steps of the word.
+    pub fn steps(&self) -> &[u8]
+        ensures is { result.now ≡ self.now }
+        ensures few { length self.now ≤ 1024 }
+    {
+        self.steps.as_slice()
+    }
+
+    /// Appends a step.
+    #[tactic(auto, using(crate::proofs::Kept::one_more))]
+    pub fn push(&mut self, step: u8)
+        requires { length self.old < 1024 }
+        ensures { self.new ≡ self.old ++ step ∷ [] }
+    {
+        let period = next_period(&self.steps, &self.periods, step);
+        put(&mut self.steps, step);
+        put(&mut self.periods, period);
+    }
+
+    /// Removes the last step.
+    #[tactic(auto, using(crate::proofs::Kept::cut))]
+    pub fn pop(&mut self)
+        requires { 0 < length self.old }
+        ensures { self.new ≡ take (length self.old - 1) self.old }
+    {
+        let left = self.steps.len() - 1;
+        self.steps.truncate(left);
+        self.periods.truncate(left);
+    }
+
+    /// Whether some proper suffix of the word, not empty, is less than the prefix of the same length.
+    pub fn turns_back(&self) -> bool
+        ensures { IsTrue result ↔ TurnsBack self.now }
+    {
+        turns(&self.steps, &self.periods)
+    }
+
+    /// Whether no rotation of the word is less than it.
+    pub fn is_least(&self) -> bool
+        ensures { IsTrue result ↔ IsLeastRotation self.now }
+    {
+        is_least_rotation(&self.steps, &self.periods)
+    }
+}
+
+#[tactic(auto, using(crate::proofs::Kept::told_turned, crate::proofs::Kept::empty_turns))]
+fn turns(steps: &[u8], periods: &[u16]) -> bool
+    requires { IsKept steps.now periods.now }
+    ensures { IsTrue result ↔ TurnsBack steps.now }
+{
+    if steps.is_empty() {
+        return false;
+    }
+    last_period(steps, periods) == 0
+}
+
+#[tactic(auto, using(crate::proofs::LeastRotations::told_least, crate::proofs::LeastRotations::told_not_least, crate::proofs::LeastRotations::empty_least))]
+fn is_least_rotation(steps: &[u8], periods: &[u16]) -> bool
+    requires { IsKept steps.now periods.now }
+    ensures { IsTrue result ↔ IsLeastRotation steps.now }
+{
+    if steps.is_empty() {
+        return true;
+    }
+    match usize::from(last_period(steps, periods)) {
+        0 => false,
+        period => steps.len() % period == 0,
+    }
+}
+
+// What is kept for the whole word.
+#[tactic(auto, using(crate::proofs::Kept::whole))]
+fn last_period(steps: &[u8], periods: &[u16]) -> u16
+    requires kept { IsKept steps.now periods.now }
+    requires some { 0 < length steps.now }
+    ensures { Tells steps.now (length steps.now) result }
+{
+    periods[periods.len() - 1]
+}
+
+// What is kept for a word with one step more.
+#[tactic(auto, using(crate::proofs::Kept::of_one, crate::proofs::Kept::of_turned, crate::proofs::Kept::of_period))]
+fn next_period(steps: &[u8], periods: &[u16], step: u8) -> u16
+    requires kept { IsKept steps.now periods.now }
+    requires few { length steps.now < 1024 }
+    ensures { Tells (steps.now ++ step ∷ []) (length steps.now + 1) result }
+{
+    let length = steps.len();
+    if length == 0 {
+        return 1;
+    }
+    let period = periods[length - 1];
+    if period == 0 {
+        return 0;
+    }
+    longer(steps, period, step)
+}
+
+// The same, of a word that does not turn back and has this period.
+#[tactic(auto, using(crate::proofs::Kept::of_same))]
+fn longer(steps: &[u8], period: u16, step: u8) -> u16
+    requires front { FrontRepeats steps.now (length steps.now) period }
+    requires few { length steps.now < 1024 }
+    ensures { Tells (steps.now ++ step ∷ []) (length steps.now + 1) result }
+{
+    let before = steps[steps.len() - usize::from(period)];
+    if step < before {
+        0
+    } else if step == before {
+        period
+    } else {
+        (steps.len() + 1) as u16
+    }
+}
+
+// Appends an item to a list that has room for it.
+fn put<T: Drop>(list: &mut Vec<T>, item: T)
+    requires { vec_len list.old < vec_capacity list.old }
+    ensures items { list.new.items ≡ list.old.items ++ item ∷ [] }
+    ensures room { vec_capacity list.old ≤ vec_capacity list.new }
+{
+    match list.push(item) {
+        Ok(()) => (),
+        Err(_) => unreachable!(),
+    }
+}

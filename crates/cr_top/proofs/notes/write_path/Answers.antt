@@ -1,6 +1,0 @@
-use Rattle.cr_top.proofs.Noting.{continued}
-use Rattle.cr_top.proofs.notes.write_path.Goals as goal
-
-pub returns : goal.returns
-returns g c =
-    rw (c.deref.ensures.value, c.key.view_is) at (continued g.met.N.Sink.chains _ _ _ _ _ _ _ c.in_ok-write_text.ensures c.write_shown.ensures)
