@@ -1,23 +1,21 @@
 -- A kept touch and a node above it.
-use Rattle.std.proofs.Common.{◌≡◌, ℕ, zero, suc, ◌+◌, ◌-◌, ◌*◌, ◌/◌, ◌<◌, ◌≤◌, ◌⊎◌, Bool, true, false, cond, ℤ, pos, ◌≤ℤ◌, nat_abs, nat_eq, List, [], ◌∷◌, ◌++◌, length, get_or, map, take, flat_map, count_by, All, inl, inr, refl, sym, ap, ◌∙◌, subst, arith, append_assoc, append-nil, length-append}
+use Rattle.std.proofs.Common.{◌≡◌, ℕ, zero, suc, ◌+◌, ◌*◌, ◌/◌, ◌<◌, ◌≤◌, Bool, true, false, cond, ℤ, pos, ◌≤ℤ◌, nat_abs, nat_eq, List, [], ◌∷◌, ◌++◌, length, get_or, map, take, flat_map, count_by, refl, ap, ◌∙◌, subst, arith, append_assoc, append-nil, length-append}
 use Rattle.std.specs.List.{range_with_len}
 use Rattle.std.proofs.Math.Nat.{mul_comm}
 use Rattle.std.proofs.lemmas.Int.{ints}
 use Rattle.std.proofs.lemmas.Nat.{le-div}
-use Rattle.std.proofs.lemmas.Bool.{cases_lt}
 use Rattle.std.proofs.lemmas.List.{length-map}
 use Rattle.std.proofs.lemmas.List.Elements.{All-head, All-tail, All-take, All-drop}
 use Rattle.std.proofs.Common.{drop, take_at, drop_at}
-use Rattle.std.proofs.lemmas.List.Sums.{sum_by-cons, sum_by-append, count_by-le-length}
+use Rattle.std.proofs.lemmas.List.Sums.{sum_by-append}
 use Rattle.cr_row.specs.Rows.{Places, after}
 use Rattle.cr_model.specs.Problems.{ProblemParts}
 use Rattle.cr_model.specs.Callings.{HasSteps, changes_of, changes_of_all, lead_length, method_of, least, shortest, rows_from, rows_of, length_of, head_of}
 use Rattle.cr_model.specs.Queries.{cap, part_cap, repeated, changes_of_method}
 use Rattle.cr_model.specs.Nodes.{part_of, IsAbove}
-use Rattle.cr_model.specs.Touches.{Kept, Wanted}
+use Rattle.cr_model.specs.Touches.{Kept}
 use Rattle.cr_model.specs.Sound.{IsSound, sound_leads, sound_parts}
 use Rattle.cr_model.specs.Dead.{parts_of, left_of, leads_left}
-use Rattle.cr_model.proofs.BookExists.{lead_some}
 use Rattle.cr_model.proofs.Measured.{change_count_is, shortest_some}
 use Rattle.cr_model.proofs.Parts.{part_repeated}
 use Rattle.cr_model.proofs.Prefixes.{prefix_iff}

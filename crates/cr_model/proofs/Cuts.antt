@@ -1,5 +1,5 @@
 -- Where a reason holds of a node, no kept touch has the node above it.
-use Rattle.std.proofs.Common.{◌≡◌, ◌≢◌, ℕ, zero, suc, ◌+◌, ◌-◌, ◌*◌, ◌<◌, ◌≤◌, ◌⊎◌, Bool, true, false, cond, not, ◌&&◌, ◌||◌, ℤ, pos, ◌≤ℤ◌, ◌<ℤ◌, int_lt, nat_eq, nat_lt, List, [], ◌∷◌, ◌++◌, length, get_or, map, take, drop, count_by, All, Contains, Option, Some, None, inl, inr, refl, sym, ap, ◌∙◌, subst, arith, append_assoc, length-append, length-drop, take-append-drop, ltb-true}
+use Rattle.std.proofs.Common.{◌≡◌, ◌≢◌, ℕ, zero, suc, ◌+◌, ◌-◌, ◌*◌, ◌<◌, ◌≤◌, ◌⊎◌, Bool, true, false, cond, not, ◌&&◌, ◌||◌, ℤ, pos, ◌≤ℤ◌, ◌<ℤ◌, int_lt, nat_eq, nat_lt, List, [], ◌∷◌, ◌++◌, length, map, take, drop, count_by, All, Contains, Option, Some, None, inl, inr, refl, sym, ap, ◌∙◌, subst, arith, append_assoc, length-append, length-drop, take-append-drop, ltb-true}
 use Rattle.std.specs.List.{list_any}
 use Rattle.std.specs.Int.Signed.{lt_z_yes}
 use Rattle.std.proofs.Math.Nat.{mul_comm, mul-le-mul_left}

@@ -1,13 +1,13 @@
 -- The depth of a listing, and how far a row is from rounds at least.
-use Rattle.std.proofs.Common.{◌≡◌, ◌≢◌, ℕ, zero, suc, ◌+◌, ◌<◌, ◌≤◌, ◌⊎◌, Bool, true, false, cond, not, ◌&&◌, List, [], ◌∷◌, ◌++◌, length, get_or, Contains, nat_le, inl, inr, refl, sym, ap, ◌∙◌, subst, arith, le-leb, leb-true, length-append}
-use Rattle.std.specs.List.{range_with_len, position_or_len}
-use Rattle.std.proofs.lemmas.Bool.{cases_lt, cases_eq, false≢true, true≢false, false_from_ne_true, and_parts, and_from}
+use Rattle.std.proofs.Common.{◌≡◌, ◌≢◌, ℕ, zero, suc, ◌+◌, ◌<◌, ◌≤◌, Bool, true, false, cond, List, [], ◌∷◌, length, get_or, nat_le, inl, inr, refl, sym, ap, ◌∙◌, subst, arith, le-leb, leb-true, length-append}
+use Rattle.std.specs.List.{range_with_len}
+use Rattle.std.proofs.lemmas.Bool.{cases_lt, false≢true, false_from_ne_true, and_parts, and_from}
 use Rattle.std.proofs.lemmas.List.FromFn.{get_or-range_with_len, length-range_with_len}
-use Rattle.std.proofs.lemmas.List.Sums.{prefix_len_passes, prefix_len-le-length, position_or_len_is}
+use Rattle.std.proofs.lemmas.List.Sums.{position_or_len_is}
 use Rattle.cr_row.specs.Rows.{Places, rounds, after}
 use Rattle.cr_model.specs.Problems.{ProblemParts}
 use Rattle.cr_model.specs.Callings.{HasSteps, changes_of_all}
-use Rattle.cr_model.specs.Levels.{head_from, LeadsHome, IsLevel, rows_before, is_listed, new_rows, spread, level, up_to_level, has_rows, has_room, greatest, depth, at_least, HasRoom}
+use Rattle.cr_model.specs.Levels.{head_from, IsLevel, rows_before, is_listed, new_rows, spread, level, up_to_level, has_rows, has_room, greatest, depth, at_least, HasRoom}
 use Rattle.cr_model.proofs.NewRows.{listed_decided}
 use Rattle.cr_model.proofs.Reaching.{level_is, least_level}
 

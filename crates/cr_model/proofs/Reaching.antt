@@ -1,11 +1,11 @@
 -- The rows of each level are those that so many leads, and no fewer, lead from to rounds.
-use Rattle.std.proofs.Common.{◌≡◌, ◌≢◌, ℕ, zero, suc, ◌+◌, ◌<◌, ◌≤◌, ◌⊎◌, ◌↔◌, List, [], ◌∷◌, ◌++◌, length, Contains, inl, inr, refl, sym, ap, ◌∙◌, subst, arith}
+use Rattle.std.proofs.Common.{◌≡◌, ℕ, zero, suc, ◌<◌, ◌≤◌, ◌↔◌, List, [], ◌∷◌, length, Contains, inl, inr, refl, sym, ap, ◌∙◌, subst, arith}
 use Rattle.std.proofs.lemmas.Bool.{cases_lt}
 use Rattle.std.proofs.lemmas.List.Elements.{All-nil, All-cons, All-head, All-tail, Contains-append_left, Contains-append_right, Contains-append_cases}
 use Rattle.cr_row.specs.Rows.{Places, rounds, after}
 use Rattle.cr_model.specs.Problems.{ProblemParts}
 use Rattle.cr_model.specs.Callings.{HasSteps, changes_of, changes_of_all, AllDiffer}
-use Rattle.cr_model.specs.Levels.{head_from, LeadsHome, IsLevel, row_before, rows_before, new_rows, Spread, further, spread, level, up_to_level}
+use Rattle.cr_model.specs.Levels.{head_from, LeadsHome, IsLevel, rows_before, new_rows, Spread, further, spread, level, up_to_level}
 use Rattle.cr_model.proofs.InOrder.{contains_cases, none_held}
 use Rattle.cr_model.proofs.Listing.{held_first}
 use Rattle.cr_model.proofs.NewRows.{held_or_not, new_rows_are, new_rows_differ, differ_joined, rows_before_are}

@@ -1,19 +1,17 @@
 -- The size of a node, by those of its children.
-use Rattle.std.proofs.Common.{◌≡◌, ℕ, zero, suc, ◌+◌, ◌-◌, ◌<◌, ◌≤◌, Bool, true, false, cond, List, [], ◌∷◌, ◌++◌, length, get_or, map, filter, find, sum_by, All, Contains, Option, Some, None, is_none, nat_lt, inl, inr, refl, sym, ap, ◌∙◌, subst, arith, lt-ltb, length-append}
+use Rattle.std.proofs.Common.{◌≡◌, ℕ, zero, suc, ◌+◌, ◌<◌, ◌≤◌, true, cond, List, [], ◌∷◌, length, get_or, find, sum_by, All, Some, None, is_none, inl, inr, refl, sym, ap, ◌∙◌, arith, lt-ltb, length-append}
 use Rattle.std.specs.List.{range_with_len}
 use Rattle.std.proofs.lemmas.Bool.{cases_lt, false≢true}
-use Rattle.std.proofs.lemmas.Bool.Decides.{Decides-ltb}
 use Rattle.std.proofs.lemmas.List.Elements.{All-head, All-tail, All-cons, All-filter, All-map, All-from_get_or, All-append, filter_passes}
 use Rattle.std.proofs.lemmas.List.FromFn.{get_or-range_with_len, length-range_with_len}
 use Rattle.std.proofs.lemmas.List.Sums.{sum_by-cons}
-use Rattle.cr_model.specs.declared.reason.Reason.{Reason}
 use Rattle.cr_model.specs.declared.reason.Reason.TheVariants as reason
 use Rattle.cr_model.specs.Problems.{ProblemParts}
-use Rattle.cr_model.specs.Callings.{HasSteps, changes_of, length_of}
+use Rattle.cr_model.specs.Callings.{changes_of, length_of}
 use Rattle.cr_model.specs.Queries.{part_cap}
 use Rattle.cr_model.specs.Nodes.{IsValid}
 use Rattle.cr_model.specs.Sound.{IsSound}
-use Rattle.cr_model.specs.Dead.{left_of, is_long, holds, reasons, dead}
+use Rattle.cr_model.specs.Dead.{left_of, is_long, holds, dead}
 use Rattle.cr_model.specs.Sizes.{child, children, live_children, size_within, size}
 use Rattle.cr_model.proofs.BookExists.{lead_some}
 use Rattle.cr_model.proofs.Ringing.{lengths_on}

@@ -1,18 +1,18 @@
 -- Words that turn back, and rotations of wanted touches.
-use Rattle.std.proofs.Common.{◌≡◌, ◌≢◌, ℕ, zero, suc, ◌+◌, ◌-◌, ◌<◌, ◌≤◌, Bool, true, false, cond, ◌&&◌, nat_eq, List, [], ◌∷◌, ◌++◌, length, get_or, take, drop, count_by, All, Any, Contains, Decides, Option, Some, None, is_none, Ordering, Less, Equal, Greater, is_lt, nat_cmp, inl, inr, refl, sym, ap, ◌∙◌, subst, arith, append_assoc, append-nil, length-append, length-drop, take-append-drop, take_at, drop_at, eqb-true}
+use Rattle.std.proofs.Common.{◌≡◌, ◌≢◌, ℕ, zero, suc, ◌+◌, ◌-◌, ◌<◌, ◌≤◌, Bool, true, cond, nat_eq, List, [], ◌∷◌, ◌++◌, length, get_or, take, drop, count_by, Decides, Option, Some, None, is_none, Ordering, Less, Equal, Greater, is_lt, nat_cmp, refl, sym, ap, ◌∙◌, subst, arith, append_assoc, append-nil, length-append, length-drop, take-append-drop, take_at, drop_at, eqb-true}
 use Rattle.std.specs.Cmp.Lexicographic.{slice_cmp}
-use Rattle.std.specs.List.{range_with_len, list_any}
+use Rattle.std.specs.List.{range_with_len}
 use Rattle.std.specs.Ordering.{ordering_then}
 use Rattle.std.proofs.lemmas.Bool.{false≢true, and_parts}
-use Rattle.std.proofs.lemmas.List.{length-take-le, nil_from_length}
+use Rattle.std.proofs.lemmas.List.{length-take-le}
 use Rattle.std.proofs.lemmas.List.Elements.{All-append, All-take, All-drop}
 use Rattle.std.proofs.lemmas.List.Folds.{Any-from_list_any, list_any-from_Any}
 use Rattle.std.proofs.lemmas.List.FromFn.{get_or-range_with_len, length-range_with_len}
 use Rattle.std.proofs.lemmas.List.Sums.{sum_by-append}
 use Rattle.cr_model.specs.declared.query.Com.{Com}
 use Rattle.cr_model.specs.Problems.{ProblemParts}
-use Rattle.cr_model.specs.Callings.{HasSteps, mark_of, letter_of, rows_of, length_of, TrueTouch}
-use Rattle.cr_model.specs.Queries.{cap, IsWithin, repeated, leads_marked, leads_lettered, rows_fitting, changes_of_method, MeetsCom, Meets}
+use Rattle.cr_model.specs.Callings.{HasSteps, mark_of, letter_of}
+use Rattle.cr_model.specs.Queries.{changes_of_method, MeetsCom}
 use Rattle.cr_model.specs.Touches.{Wanted, IsRotation, IsLess}
 use Rattle.cr_model.specs.Turning.{TurnsBack}
 use Rattle.cr_model.specs.Dead.{parts_of, turns_back, turn_free}

@@ -1,5 +1,5 @@
 -- The reasons why no kept touch has a node above it, in the order in which they are looked at. A node here is not empty.
-use Rattle.std.specs.Prelude.{◌≡◌, ℕ, ◌+◌, ◌-◌, ◌*◌, ◌/◌, Bool, true, false, not, ◌&&◌, ◌||◌, ℤ, pos, int_lt, nat_abs, nat_lt, nat_eq, List, [], ◌∷◌, ◌++◌, All, length, drop, take, find, Option, Some, None, is_none}
+use Rattle.std.specs.Prelude.{◌≡◌, ℕ, ◌+◌, ◌-◌, ◌*◌, ◌/◌, Bool, true, false, not, ◌&&◌, ◌||◌, pos, int_lt, nat_abs, nat_lt, nat_eq, List, [], ◌∷◌, ◌++◌, All, length, drop, take, find, Option, Some, None, is_none}
 use Rattle.std.specs.Cmp.Lexicographic.{pointwise, slice_cmp}
 use Rattle.std.specs.List.{list_any, range_with_len}
 use Rattle.std.specs.Ordering.{nat_cmp, is_lt}

@@ -100,8 +100,8 @@ doubles = record {
 }
 
 -- three leads on four bells: the plain lead; one of three changes, with rounds in its middle; and one with a row twice, since its last change makes all places
-abbrev pub faulty : ProblemParts
-faulty = record {
+abbrev pub faulty : QueryParts → ProblemParts
+faulty query = record {
   stage = 4;
   letters = 65 ∷ [];
   leads =
@@ -109,5 +109,5 @@ faulty = record {
       ∷ record { step = record { method = 0; mark = 114 }; changes = map on_four ([] ∷ [] ∷ (1 ∷ 4 ∷ []) ∷ []) }
       ∷ lead_of 0 115 (1 ∷ 2 ∷ 3 ∷ 4 ∷ [])
       ∷ [];
-  query = asks 1 24 1;
+  query = query;
 }

@@ -98,11 +98,11 @@ pub fn a_node_is_dead_for_its_first_reason()
 pub fn nodes_die_at_the_edges()
     ensures long { map (λ high. dead (pair (asks 1 high 3)) 3 (0 ∷ [])) (23 ∷ 24 ∷ []) ≡ Some reason.Long ∷ None ∷ [] }
     ensures long_first { dead (pair (asks 1 8 1)) 3 (1 ∷ 1 ∷ []) ≡ Some reason.Long }
-    ensures self_false { map (dead faulty 3) ((2 ∷ []) ∷ (0 ∷ 2 ∷ []) ∷ (2 ∷ 0 ∷ []) ∷ [])
+    ensures self_false { map (dead (faulty (asks 1 24 1)) 3) ((2 ∷ []) ∷ (0 ∷ 2 ∷ []) ∷ (2 ∷ 0 ∷ []) ∷ [])
         ≡ Some reason.SelfFalse ∷ Some reason.SelfFalse ∷ Some reason.Again ∷ [] }
     ensures again { map (dead (pair (asks 1 24 1)) 3) ((0 ∷ 1 ∷ []) ∷ (1 ∷ 1 ∷ []) ∷ (0 ∷ 0 ∷ []) ∷ [])
         ≡ Some reason.Again ∷ Some reason.Again ∷ None ∷ [] }
-    ensures home { dead faulty 3 (1 ∷ []) ≡ Some reason.Home }
+    ensures home { dead (faulty (asks 1 24 1)) 3 (1 ∷ []) ≡ Some reason.Home }
     ensures home_in_parts { map (λ parts. dead (pair (asks 1 24 parts)) 3 (1 ∷ [])) (1 ∷ 2 ∷ []) ≡ None ∷ Some reason.Home ∷ [] }
     ensures far { map (λ high. dead (pair (asks 1 high 1)) 3 (0 ∷ [])) (23 ∷ 24 ∷ []) ≡ Some reason.Far ∷ None ∷ [] }
 {}
@@ -124,6 +124,8 @@ pub fn nodes_die_above_a_limit()
 /// Nodes that can still come to what a limit asks for, and ones that fall one short.
 pub fn nodes_die_below_a_limit()
     ensures marks { map (λ least. dead (pair (record (asks 1 24 1) { counts = marked 98 least 9 ∷ [] })) 3 (0 ∷ [])) (3 ∷ 2 ∷ [])
+        ≡ Some reason.TooFew ∷ None ∷ [] }
+    ensures leads_left_rounded_down { map (λ least. dead (faulty (record (asks 1 24 1) { counts = marked 115 least 9 ∷ [] })) 3 (0 ∷ [])) (6 ∷ 5 ∷ [])
         ≡ Some reason.TooFew ∷ None ∷ [] }
     ensures methods { map (λ least. dead (pair (record (asks 1 24 1) { method_counts = lettered 67 least 9 ∷ [] })) 3 (0 ∷ [])) (3 ∷ 2 ∷ [])
         ≡ Some reason.TooFew ∷ None ∷ [] }

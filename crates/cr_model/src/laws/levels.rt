@@ -5,7 +5,7 @@ ghost use Rattle.cr_row.specs.Rows.{rounds};
 ghost use Rattle.cr_model.specs.Problems.{ProblemParts};
 ghost use Rattle.cr_model.specs.Callings.{HasSteps, AllDiffer, changes_of_all};
 ghost use Rattle.cr_model.specs.Levels.{head_from, LeadsHome, IsLevel, HasRoom, level, up_to_level, depth, at_least};
-ghost use Rattle.cr_model.specs.Examples.{doubles};
+ghost use Rattle.cr_model.specs.Examples.{minimus, doubles};
 
 use cr_row::change_twice;
 
@@ -42,10 +42,11 @@ pub fn no_fewer_leads_lead_home()
 }
 
 /// Of Plain Bob Doubles two rows are one lead from rounds. With room for these and rounds, rows that are
-/// further away count as two leads away.
+/// further away count as two leads away. Plain Bob Minimus has three levels of one row, and then none.
 pub fn levels_of_doubles()
     ensures level { map (level doubles) (0 ∷ 1 ∷ []) ≡
         ((1 ∷ 2 ∷ 3 ∷ 4 ∷ 5 ∷ []) ∷ []) ∷ ((1 ∷ 4 ∷ 2 ∷ 5 ∷ 3 ∷ []) ∷ (1 ∷ 2 ∷ 3 ∷ 5 ∷ 4 ∷ []) ∷ []) ∷ [] }
+    ensures depth_of_few { map (depth minimus) (2 ∷ 3 ∷ 9 ∷ []) ≡ 1 ∷ 2 ∷ 2 ∷ [] }
     ensures depth { map (depth doubles) (1 ∷ 2 ∷ 3 ∷ 4 ∷ []) ≡ 0 ∷ 0 ∷ 1 ∷ 1 ∷ [] }
     ensures at_least { map (at_least doubles 3)
         ((1 ∷ 2 ∷ 3 ∷ 4 ∷ 5 ∷ []) ∷ (1 ∷ 2 ∷ 3 ∷ 5 ∷ 4 ∷ []) ∷ (1 ∷ 4 ∷ 2 ∷ 5 ∷ 3 ∷ []) ∷ (1 ∷ 5 ∷ 4 ∷ 3 ∷ 2 ∷ []) ∷ [])

@@ -6,4 +6,4 @@ use Rattle.cr_model.proofs.laws.dead.nodes_die_below_a_limit.Goals as goal
 
 pub returns : goal.returns
 unfolding extent spread depth at_least dead
-returns c = record { marks = refl; methods = refl; rows = refl; changes_of_method = refl; joins_of_parts = refl }
+returns c = record { marks = refl; leads_left_rounded_down = refl; methods = refl; rows = refl; changes_of_method = refl; joins_of_parts = refl }
