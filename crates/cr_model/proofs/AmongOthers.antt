@@ -1,12 +1,11 @@
 -- A split of some nodes among others.
-use Rattle.std.proofs.Common.{◌≡◌, ◌≢◌, ℕ, ◌+◌, ◌-◌, ◌<◌, ◌≤◌, ◌⊎◌, Bool, true, false, cond, ◌&&◌, nat_eq, List, [], ◌∷◌, ◌++◌, length, get_or, count_by, All, Any, Contains, inl, inr, refl, sym, ap, ap₂, ◌∙◌, subst, arith, length-append, eqb-true, eq-eqb}
+use Rattle.std.proofs.Common.{◌≡◌, ◌≢◌, ℕ, ◌+◌, ◌-◌, ◌<◌, ◌⊎◌, true, false, cond, nat_eq, List, [], ◌∷◌, ◌++◌, length, get_or, All, Any, Contains, inl, inr, refl, sym, ap, ap₂, ◌∙◌, arith, length-append, eqb-true, eq-eqb}
 use Rattle.std.proofs.lemmas.Bool.{cases_lt, true≢false, false_from_ne_true, false≢true, and_parts, and_from}
 use Rattle.std.proofs.lemmas.List.{get_or_default, get_or_append_left, get_or-append_right}
 use Rattle.std.proofs.lemmas.List.Elements.{All-append}
 use Rattle.std.proofs.lemmas.List.Sums.{sum_by-append}
 use Rattle.cr_model.specs.Problems.{ProblemParts}
-use Rattle.cr_model.specs.Nodes.{part_of, is_prefix, is_above, IsValid, nodes_above, times_found, Independent, Splits}
-use Rattle.cr_model.specs.Touches.{Kept}
+use Rattle.cr_model.specs.Nodes.{part_of, is_prefix, is_above, IsValid, nodes_above, Independent, Splits}
 use Rattle.cr_model.proofs.Counting.{passing}
 use Rattle.cr_model.proofs.Prefixes.{begins_itself, begins_onward}
 
