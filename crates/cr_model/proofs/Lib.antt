@@ -1,3 +1,4 @@
+pub mod AmongOthers
 pub mod Bells
 pub mod Below
 pub mod BookExists
@@ -25,5 +26,6 @@ pub mod RingingBack
 pub mod Rotations
 pub mod Sizing
 pub mod Splitting
+pub mod TurnSplits
 pub mod Turned
 pub mod TurnedBack

@@ -11,7 +11,7 @@ words_length a zero word = omega arith
 words_length a (suc number) word = omega (arith, length-append word (flat_map (λ _. word) (range_with_len (a + 1) number)), words_length (a + 1) number word)
 
 -- a calling of equal words begins with the word, and that is its share of the length
-first_word : (number : ℕ) (calling word : List ℕ) → calling ≡ repeated (suc number) word → take (length calling / suc number) calling ≡ word
+pub first_word : (number : ℕ) (calling word : List ℕ) → calling ≡ repeated (suc number) word → take (length calling / suc number) calling ≡ word
 first_word number calling word e =
     let long : length calling ≡ length word * suc number = ap length e ∙ words_length 0 (suc number) word ∙ omega arith in
     let part : length calling / suc number ≡ length word = ap (λ n. n / suc number) long ∙ mul-div_cancel (length word) (omega arith) in

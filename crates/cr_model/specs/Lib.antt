@@ -9,6 +9,7 @@ pub mod Turning
 pub mod Levels
 pub mod Dead
 pub mod Sizes
+pub mod OneTurn
 pub mod Books
 pub mod Checks
 pub mod Limits

@@ -32,8 +32,8 @@ pub use levels::{
     levels_list_rows, levels_of_doubles, no_fewer_leads_lead_home, the_depth_is_greatest,
 };
 pub use nodes::{
-    a_split_covers_the_same, a_touch_is_its_part_repeated, covers_are_counted, prefixes,
-    splits_follow_one_another,
+    a_split_among_others, a_split_covers_the_same, a_touch_is_its_part_repeated,
+    covers_are_counted, one_turn_splits_a_node, prefixes, splits_follow_one_another,
 };
 pub use parts::parts_have_one_answer;
 pub use ringing::{a_lead_rung_from_a_row, joined_callings_multiply, ringing_on};

@@ -1,10 +1,18 @@
 //! Nodes, and what found touches and nodes cover.
 
-ghost use Rattle.std.specs.Prelude.{◌≡◌, ℕ, ◌+◌, ◌≤◌, ◌↔◌, true, List, [], ◌++◌, nat_abs, All};
+ghost use Rattle.std.specs.Prelude.{◌≡◌, ℕ, ◌+◌, ◌≤◌, ◌↔◌, true, List, [], ◌∷◌, ◌++◌, nat_abs, All};
 ghost use Rattle.cr_model.specs.Problems.{ProblemParts};
 ghost use Rattle.cr_model.specs.Queries.{repeated, Meets};
 ghost use Rattle.cr_model.specs.Touches.{Kept};
 ghost use Rattle.cr_model.specs.Nodes.{part_of, is_prefix, IsValid, nodes_above, times_found, Covers, Independent, Splits};
+ghost use Rattle.cr_model.specs.Sound.{IsSound};
+ghost use Rattle.cr_model.specs.Sizes.{live_children};
+ghost use Rattle.cr_model.specs.OneTurn.{touch_found};
+
+use cr_row::{
+    change_after_product, change_of_a_row, change_twice, inverse_on_one_side, product_associates,
+    rounds_is_neutral,
+};
 
 /// A node begins some steps exactly where they are the node and some more.
 pub fn prefixes()
@@ -35,4 +43,24 @@ pub fn splits_follow_one_another()
 pub fn covers_are_counted()
     ensures { (p : ProblemParts) (found nodes : List (List ℕ)) (calling : List ℕ)
         → Covers p found nodes calling ↔ (Kept p calling × (1 ≤ times_found found calling + nodes_above p nodes calling)) }
+{}
+
+/// One turn on a valid node: its touch, if that is kept, and its children that are not dead are a split of it.
+pub fn one_turn_splits_a_node()
+    ensures { (p : ProblemParts) (most : ℕ) (node : List ℕ) → IsSound p → IsValid p node
+        → Splits p (node ∷ []) (touch_found p node) (live_children p most node) }
+{
+    change_after_product();
+    change_of_a_row();
+    change_twice();
+    inverse_on_one_side();
+    product_associates();
+    rounds_is_neutral();
+}
+
+/// A split of some nodes is one of them among others, where the others are valid and all are apart.
+pub fn a_split_among_others()
+    ensures { (p : ProblemParts) (job found rest others : List (List ℕ)) → Splits p job found rest
+        → All (IsValid p) others → Independent p [] (others ++ job)
+        → Splits p (others ++ job) found (others ++ rest) }
 {}
