@@ -1,0 +1,4 @@
+pub mod Latest
+pub mod Linked
+pub mod ReadRows
+pub mod Held
