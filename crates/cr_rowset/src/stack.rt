@@ -55,9 +55,10 @@ impl RowStack {
             return Err(NoMemory);
         }
         let shift = shift_for(room);
+        let places = room as usize;
         let buckets = Vec::from_elem(alloc, 0, bucket_number(shift))?;
-        let before = Vec::from_elem(alloc, 0, room as usize)?;
-        let rows = Vec::from_elem(alloc, any_row(), room as usize)?;
+        let before = Vec::from_elem(alloc, 0, places)?;
+        let rows = Vec::from_elem(alloc, any_row(), places)?;
         Ok(RowStack {
             rows,
             buckets,
@@ -95,8 +96,8 @@ impl RowStack {
         Pushed::Fresh
     }
 
-    #[tactic(auto, using(crate::proofs::Held::kept_less, crate::proofs::Held::cut))]
     /// Removes the rows above the first ones, of which so many stay.
+    #[tactic(auto, using(crate::proofs::Held::kept_less, crate::proofs::Held::cut))]
     pub fn cut_to(&mut self, len: u64)
         requires { len ≤ length self.old.rows }
         ensures { self.new ≡ record { rows = take len self.old.rows; room = self.old.room } }
@@ -143,6 +144,7 @@ fn bucket_number(shift: u32) -> usize
 }
 
 // The bucket of a row.
+#[inline(always)]
 #[tactic(auto, using(crate::proofs::Linked::hash_below), unfolding(crate::specs::Chains::bucket, crate::specs::Chains::bucket_count))]
 fn bucket_of(row: &Row, shift: u32) -> usize
     requires { shift < 64 }
