@@ -4,8 +4,8 @@ use Rattle.std.specs.Prelude.{Contains}
 use Rattle.std.proofs.lemmas.Bool.{cases_eq}
 use Rattle.std.proofs.lemmas.List.{get_or_default, get_or-take, length-take-le, take_more_set, length-set, get_or-set_same, get_or-set_other, take-take}
 use Rattle.cr_rowset.specs.Stacks.{StackParts}
-use Rattle.cr_rowset.specs.Chains.{IsChained, IsStack, bucket, bucket_count}
-use Rattle.cr_rowset.specs.Pushing.{Pushes, StandsAt}
+use Rattle.cr_rowset.specs.Chains.{IsChained, IsStack, bucket}
+use Rattle.cr_rowset.specs.Pushing.{Pushes}
 use Rattle.cr_rowset.specs.declared.pushed.Pushed.TheVariants.{Fresh, Again, Full}
 use Rattle.cr_rowset.proofs.Linked.{one_more}
 

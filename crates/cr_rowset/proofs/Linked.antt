@@ -1,9 +1,9 @@
 -- The chains of a stack, as it grows, is searched and is cut.
-use Rattle.std.proofs.Common.{◌≡◌, ◌≢◌, ℕ, zero, suc, ◌+◌, ◌-◌, ◌*◌, ◌%◌, ◌/◌, ◌^◌, ◌<◌, ◌≤◌, List, [], length, get_or, replicate, set, refl, ap, sym, ◌∙◌, subst, inl, inr, arith}
+use Rattle.std.proofs.Common.{◌≡◌, ◌≢◌, ℕ, suc, ◌+◌, ◌-◌, ◌/◌, ◌^◌, ◌<◌, ◌≤◌, List, [], length, get_or, set, ap, sym, ◌∙◌, subst, inl, inr, arith}
 use Rattle.std.proofs.lemmas.Bool.{cases_eq, cases_order}
 use Rattle.std.proofs.lemmas.Nat.{shr_below}
 use Rattle.std.proofs.lemmas.List.{get_or-set_same, get_or-set_other, length-set}
-use Rattle.cr_rowset.specs.Chains.{bucket, bucket_count, latest, IsChained, IsStack, Seeks}
+use Rattle.cr_rowset.specs.Chains.{bucket, latest, IsChained, Seeks}
 use Rattle.cr_rowset.proofs.Latest.{agrees, here, further, at_most, passed, holds}
 
 -- a hash moved down is the number of a bucket

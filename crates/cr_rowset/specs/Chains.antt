@@ -1,6 +1,6 @@
 -- How the rows of a stack hang together: each stands in a bucket, and the places of a bucket form a chain, from the
 -- last one down.
-use Rattle.std.specs.Prelude.{◌≡◌, ◌≢◌, ℕ, zero, suc, ◌+◌, ◌-◌, ◌*◌, ◌/◌, ◌%◌, ◌^◌, ◌<◌, ◌≤◌, cond, List, [], length, get_or, nat_eq}
+use Rattle.std.specs.Prelude.{◌≡◌, ◌≢◌, ℕ, zero, suc, ◌-◌, ◌*◌, ◌/◌, ◌%◌, ◌^◌, ◌<◌, ◌≤◌, cond, List, [], length, get_or, nat_eq}
 use Rattle.cr_row.specs.Packed.{key_of}
 
 -- the bucket of a row: the high bits of its key times an odd number

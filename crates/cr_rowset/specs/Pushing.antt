@@ -1,5 +1,5 @@
 -- What a push answers, and what it leaves.
-use Rattle.std.specs.Prelude.{◌≡◌, ◌≢◌, ℕ, ◌<◌, List, [], ◌∷◌, ◌++◌, length, get_or, Contains}
+use Rattle.std.specs.Prelude.{◌≡◌, ℕ, ◌<◌, List, [], ◌∷◌, ◌++◌, length, get_or, Contains}
 use Rattle.cr_rowset.specs.Stacks.{StackParts}
 use Rattle.cr_rowset.specs.declared.pushed.Pushed.{Pushed}
 use Rattle.cr_rowset.specs.declared.pushed.Pushed.TheVariants.{Fresh, Again, Full}

@@ -1,5 +1,5 @@
 -- What a row stack is seen as.
-use Rattle.std.specs.Prelude.{◌≡◌, ◌≢◌, ℕ, ◌<◌, List, [], length, get_or}
+use Rattle.std.specs.Prelude.{◌≢◌, ℕ, ◌<◌, List, [], length, get_or}
 
 -- its rows, the first pushed first, and how many it may hold
 pub record StackParts : Type 0 where

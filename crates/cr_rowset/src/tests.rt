@@ -22,8 +22,19 @@ fn cut(stack: &mut RowStack, len: u64) -> Result<(), Fail> {
     Ok(())
 }
 
-// Rows that are pushed to a stack of room 2, what comes, and how many rows there are then.
-const PUSHES: [(&str, &[u8], Pushed, u64); 5] = [
+// A push: its name, the row, the answer that is wanted, and how many rows there are then.
+type Push = (&'static str, &'static [u8], Pushed, u64);
+
+fn push_all(stack: &mut RowStack, pushes: &[Push]) -> Result<(), Fail> {
+    for (name, bells, wanted, len) in pushes {
+        if stack.push(row(bells)?) != *wanted || stack.len() != *len {
+            return Err(Fail::from(*name));
+        }
+    }
+    Ok(())
+}
+
+const TWO_ROWS: [Push; 5] = [
     ("12345", &[1, 2, 3, 4, 5], Pushed::Fresh, 1),
     ("12345 again", &[1, 2, 3, 4, 5], Pushed::Again(0), 1),
     ("21435", &[2, 1, 4, 3, 5], Pushed::Fresh, 2),
@@ -31,39 +42,38 @@ const PUSHES: [(&str, &[u8], Pushed, u64); 5] = [
     ("21435 again", &[2, 1, 4, 3, 5], Pushed::Again(1), 2),
 ];
 
+const AFTER_A_CUT_TO_1: [Push; 3] = [
+    ("24153 after the cut", &[2, 4, 1, 5, 3], Pushed::Fresh, 2),
+    ("21435 after the cut", &[2, 1, 4, 3, 5], Pushed::Full, 2),
+    ("12345 after the cut", &[1, 2, 3, 4, 5], Pushed::Again(0), 2),
+];
+
+const OF_TWO_STAGES: [Push; 4] = [
+    ("123", &[1, 2, 3], Pushed::Fresh, 1),
+    ("1234", &[1, 2, 3, 4], Pushed::Fresh, 2),
+    ("123 again", &[1, 2, 3], Pushed::Again(0), 2),
+    ("1234 again", &[1, 2, 3, 4], Pushed::Again(1), 2),
+];
+
 #[test]
 fn a_stack_of_room_2(rt: HostRuntime) -> Result<(), Fail> {
     let mut stack = stack(rt.alloc(), 2)?;
-    for (name, bells, wanted, len) in PUSHES {
-        assert_eq!(rt; stack.push(row(bells)?), wanted, "{name}");
-        assert_eq!(rt; stack.len(), len, "{name}");
-    }
+    push_all(&mut stack, &TWO_ROWS)?;
     cut(&mut stack, 1)?;
-    assert_eq!(rt; stack.push(row(&[2, 4, 1, 5, 3])?), Pushed::Fresh);
-    assert_eq!(rt; stack.push(row(&[2, 1, 4, 3, 5])?), Pushed::Full);
+    push_all(&mut stack, &AFTER_A_CUT_TO_1)?;
     cut(&mut stack, 0)?;
-    assert_eq!(rt; stack.len(), 0);
-    assert_eq!(rt; stack.push(row(&[1, 2, 3, 4, 5])?), Pushed::Fresh);
-    Ok(())
+    push_all(&mut stack, &OF_TWO_STAGES)
 }
 
 #[test]
 fn a_stack_without_room(rt: HostRuntime) -> Result<(), Fail> {
     let mut stack = stack(rt.alloc(), 0)?;
-    assert_eq!(rt; stack.push(row(&[1, 2, 3])?), Pushed::Full);
+    push_all(
+        &mut stack,
+        &[("123 without room", &[1, 2, 3], Pushed::Full, 0)],
+    )?;
     cut(&mut stack, 0)?;
-    assert_eq!(rt; stack.len(), 0);
     assert!(rt; RowStack::with_room(rt.alloc(), u64::MAX).is_err());
-    Ok(())
-}
-
-#[test]
-fn rounds_of_two_stages(rt: HostRuntime) -> Result<(), Fail> {
-    let mut stack = stack(rt.alloc(), 2)?;
-    assert_eq!(rt; stack.push(row(&[1, 2, 3])?), Pushed::Fresh);
-    assert_eq!(rt; stack.push(row(&[1, 2, 3, 4])?), Pushed::Fresh);
-    assert_eq!(rt; stack.push(row(&[1, 2, 3])?), Pushed::Again(0));
-    assert_eq!(rt; stack.push(row(&[1, 2, 3, 4])?), Pushed::Again(1));
     Ok(())
 }
 
@@ -78,27 +88,28 @@ struct Ringing {
 
 const ROOM: u64 = 12_000;
 
+// Of a linear generator.
+const SPREAD: u64 = 6_364_136_223_846_793_005;
+
 // The places made at every other change, of which one is drawn by lot; at the others all pairs cross.
 const PLACES: [&[u8]; 3] = [&[1, 12], &[1, 4], &[3, 6]];
 
-fn change(places: &[u8]) -> Result<Change, Fail> {
-    let stage = Stage::new(12).ok_or("there are 12 bells")?;
-    match Change::from_places(stage, places) {
-        Ok(change) => Ok(change),
+// The row after the change with these places.
+fn rung(row: &Row, places: &[u8]) -> Result<Row, Fail> {
+    match Change::from_places(row.stage(), places) {
+        Ok(change) => Ok(row.then(&change)),
         Err(_) => Err(Fail::from("the places are those of a change")),
     }
 }
 
 // What a stack with this list is to answer to a row.
 fn wanted(list: &[Row], row: &Row) -> Pushed {
-    let mut place = 0;
-    for held in list {
-        if *held == *row {
-            return Pushed::Again(place);
+    for place in 0..list.len() {
+        if list[place] == *row {
+            return Pushed::Again(place as u64);
         }
-        place += 1;
     }
-    if place < ROOM {
+    if (list.len() as u64) < ROOM {
         Pushed::Fresh
     } else {
         Pushed::Full
@@ -116,19 +127,11 @@ fn agrees(ringing: &mut Ringing, row: Row) -> Result<bool, Fail> {
 
 // Rings two changes.
 fn lead_on(ringing: &mut Ringing) -> Result<bool, Fail> {
-    let cross = change(&[])?;
-    ringing.seed = ringing
-        .seed
-        .wrapping_mul(6_364_136_223_846_793_005)
-        .wrapping_add(1);
-    let places = change(PLACES[(ringing.seed >> 33) as usize % 3])?;
-    if ringing.row.stage().number() != 12 {
-        return Err(Fail::from("12 bells ring"));
-    }
-    let first = ringing.row.then(&cross);
-    ringing.row = first.then(&places);
-    let row = ringing.row;
-    Ok(agrees(ringing, first)? && agrees(ringing, row)?)
+    ringing.seed = ringing.seed.wrapping_mul(SPREAD).wrapping_add(1);
+    let cross = rung(&ringing.row, &[])?;
+    let row = rung(&cross, PLACES[(ringing.seed >> 33) as usize % 3])?;
+    ringing.row = row;
+    Ok(agrees(ringing, cross)? && agrees(ringing, row)?)
 }
 
 // Rings until the stack is full. Then each of its rows stands where the list has it.
@@ -141,12 +144,10 @@ fn fill(ringing: &mut Ringing) -> Result<(), Fail> {
             break;
         }
     }
-    let mut place = 0;
-    for held in &ringing.list {
-        if ringing.stack.push(*held) != Pushed::Again(place) {
+    for place in 0..ringing.list.len() {
+        if ringing.stack.push(ringing.list[place]) != Pushed::Again(place as u64) {
             return Err(Fail::from("each row stands at its place"));
         }
-        place += 1;
     }
     Ok(())
 }
@@ -164,7 +165,6 @@ fn as_a_plain_list(rt: HostRuntime) -> Result<(), Fail> {
     cut(&mut ringing.stack, ROOM / 2)?;
     ringing.list.truncate(ROOM as usize / 2);
     fill(&mut ringing)?;
-    assert_eq!(rt; ringing.stack.len(), ROOM);
-    assert!(rt; lead_on(&mut ringing)?);
+    assert!(rt; ringing.stack.len() == ROOM && lead_on(&mut ringing)?);
     Ok(())
 }

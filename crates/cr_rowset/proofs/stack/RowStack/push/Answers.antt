@@ -1,5 +1,5 @@
 -- The look-up begins at the mark of the row's bucket; where it finds nothing, the row is none of those held.
-use Rattle.std.proofs.Common.{◌≡◌, ℕ, ◌+◌, ◌<◌, ◌∙◌, List, length, refl, sym, subst, arith}
+use Rattle.std.proofs.Common.{◌≡◌, ℕ, ◌+◌, ◌<◌, ◌∙◌, List, length, refl, subst, arith}
 use Rattle.std.proofs.lemmas.List.{get_or_default}
 use Rattle.cr_rowset.proofs.Linked.{begins}
 use Rattle.cr_rowset.proofs.Held.{IsAway, full, fresh, kept_more}
