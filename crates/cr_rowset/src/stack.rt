@@ -1,0 +1,193 @@
+//! The rows of a stack, in chains by their keys.
+
+ghost use Rattle.std.specs.Prelude.{◌≡◌, ◌≢◌, ℕ, ◌<◌, ◌≤◌, List, [], length, take, get_or, replicate, IfOk, IfSome, IsNone};
+ghost use Rattle.cr_rowset.specs.Stacks.{AllDiffer};
+ghost use Rattle.cr_rowset.specs.Chains.{bucket, bucket_count, IsChained, Seeks};
+ghost use Rattle.cr_rowset.specs.Pushing.{Pushes};
+
+use crate::pushed::Pushed;
+use cr_row::{NoMemory, Row, Stage};
+use std::alloc::Global;
+use std::marker::Model;
+
+// Rooms from this one on have no places that 32 bits number.
+const TOO_MANY: u64 = 0xFFFF_FFFF;
+
+// An odd number near 2^64 over the golden ratio: it spreads keys over the buckets.
+const SPREAD: u64 = 0x9E37_79B9_7F4A_7C15;
+
+/// A stack of different rows, with a room that never changes.
+///
+/// It is seen as the list of its rows, the first pushed first, and its room. A push looks at the rows
+/// of one bucket alone, and a cut takes constant time for each row that goes.
+#[derive(Drop)]
+pub struct RowStack {
+    // The rows of the stack are the first ones.
+    rows: Vec<Row>,
+    // Of each bucket one more than the place of its last row, or 0.
+    buckets: Vec<u32>,
+    // Of each place what the bucket of its row had before.
+    before: Vec<u32>,
+    len: usize,
+    // A bucket is what is left of a hash that is moved down by so many bits.
+    shift: u32,
+}
+
+impl Model for RowStack {
+    ghost use Rattle.std.specs.Prelude.{length, take};
+    ghost use Rattle.cr_rowset.specs.Stacks.{StackParts};
+    ghost use Rattle.cr_rowset.specs.Chains.{IsStack};
+
+    ghost Value = { StackParts };
+
+    ghost view = { λ s. record { rows = take s.len s.rows.items; room = length s.rows.items } };
+
+    ghost invariant = { λ s. IsStack s.shift s.buckets.items s.before.items s.rows.items s.len };
+}
+
+impl RowStack {
+    /// The empty stack with this room. All memory that it will need is taken here. Err where no memory
+    /// is left, and for a room of 2^32 - 1 rows or more.
+    pub fn with_room(alloc: Global, room: u64) -> Result<RowStack, NoMemory>
+        ensures { IfOk result (λ stack. stack ≡ record { rows = []; room = room }) }
+    {
+        if room >= TOO_MANY {
+            return Err(NoMemory);
+        }
+        let shift = shift_for(room);
+        let places = room as usize;
+        let buckets = Vec::from_elem(alloc, 0, bucket_number(shift))?;
+        let before = Vec::from_elem(alloc, 0, places)?;
+        let rows = Vec::from_elem(alloc, any_row(), places)?;
+        Ok(RowStack {
+            rows,
+            buckets,
+            before,
+            len: 0,
+            shift,
+        })
+    }
+
+    /// How many rows there are.
+    pub fn len(&self) -> u64
+        ensures is { result ≡ length self.now.rows }
+        ensures within { length self.now.rows ≤ self.now.room }
+        ensures different { AllDiffer self.now.rows }
+    {
+        self.len as u64
+    }
+
+    /// Puts a row last, unless it stands in the stack already or there is no room for it.
+    pub fn push(&mut self, row: Row) -> Pushed
+        ensures { Pushes self.old row result self.new }
+    {
+        let bucket = bucket_of(&row, self.shift);
+        let last = self.buckets[bucket];
+        if let Some(place) = place_of(&self.rows, &self.before, self.len, last, &row) {
+            return Pushed::Again(place);
+        }
+        if self.len == self.rows.len() {
+            return Pushed::Full;
+        }
+        self.rows[self.len] = row;
+        self.before[self.len] = last;
+        self.len += 1;
+        self.buckets[bucket] = self.len as u32;
+        Pushed::Fresh
+    }
+
+    /// Removes the rows above the first ones, of which so many stay.
+    #[tactic(auto, using(crate::proofs::Held::kept_less, crate::proofs::Held::cut))]
+    pub fn cut_to(&mut self, len: u64)
+        requires { len ≤ length self.old.rows }
+        ensures { self.new ≡ record { rows = take len self.old.rows; room = self.old.room } }
+    {
+        let left = len as usize;
+        unlink(
+            &mut self.buckets,
+            &self.before,
+            &self.rows,
+            self.shift,
+            self.len,
+            left,
+        );
+        self.len = left;
+    }
+}
+
+// What fills places that no row has taken yet.
+fn any_row() -> Row {
+    match Stage::new(3) {
+        Some(stage) => Row::rounds(stage),
+        None => unreachable!(),
+    }
+}
+
+// By how many bits a hash is moved down: so that there are twice as many buckets as rows, or more.
+fn shift_for(room: u64) -> u32
+    ensures { (1 ≤ result) × (result < 64) }
+{
+    let mut shift = 60;
+    while shift > 30 && (1u64 << (64 - shift)) / 2 < room {
+        shift -= 1;
+    }
+    shift
+}
+
+// How many buckets there are.
+#[tactic(auto, unfolding(crate::specs::Chains::bucket_count))]
+fn bucket_number(shift: u32) -> usize
+    requires { (1 ≤ shift) × (shift < 64) }
+    ensures { result ≡ bucket_count shift }
+{
+    1 << (64 - shift)
+}
+
+// The bucket of a row.
+#[inline(always)]
+#[tactic(auto, using(crate::proofs::Linked::hash_below), unfolding(crate::specs::Chains::bucket, crate::specs::Chains::bucket_count))]
+fn bucket_of(row: &Row, shift: u32) -> usize
+    requires { shift < 64 }
+    ensures is { result ≡ bucket shift row.now }
+    ensures within { result < bucket_count shift }
+{
+    (row.key().wrapping_mul(SPREAD) >> shift) as usize
+}
+
+// The place of a row among the first ones, by the chain that begins at the place before the mark.
+fn place_of(rows: &[Row], before: &[u32], len: usize, mark: u32, row: &Row) -> Option<u64>
+    requires chain { Seeks rows.now before.now len mark row.now }
+    requires rows { len ≤ length rows.now }
+    requires before { len ≤ length before.now }
+    ensures within { IfSome result (λ place. place < len) }
+    ensures is { IfSome result (λ place. get_or rows.now place [] ≡ row.now) }
+    ensures none { IsNone result → (i : ℕ) → i < len → get_or rows.now i [] ≢ row.now }
+{
+    let mut mark = mark;
+    while mark > 0 {
+        let place = (mark - 1) as usize;
+        if rows[place] == *row {
+            return Some(place as u64);
+        }
+        mark = before[place];
+    }
+    None
+}
+
+// Gives the buckets back what they had before the rows from this place on.
+fn unlink(buckets: &mut [u32], before: &[u32], rows: &[Row], shift: u32, len: usize, left: usize)
+    requires bits { shift < 64 }
+    requires chained { IsChained shift buckets.old before.now rows.now len }
+    requires buckets { length buckets.old ≡ bucket_count shift }
+    requires rows { len ≤ length rows.now }
+    requires before { len ≤ length before.now }
+    requires left { left ≤ len }
+    ensures chained { IsChained shift buckets.new before.now rows.now left }
+    ensures same_length { length buckets.new ≡ length buckets.old }
+{
+    let mut place = len;
+    while place > left {
+        place -= 1;
+        buckets[bucket_of(&rows[place], shift)] = before[place];
+    }
+}
