@@ -11,6 +11,7 @@ pub mod Dead
 pub mod Sizes
 pub mod OneTurn
 pub mod Books
+pub mod Summaries
 pub mod Checks
 pub mod Limits
 pub mod Right
