@@ -7,8 +7,7 @@ use Rattle.cr_model.specs.Problems.{LeadParts, ProblemParts}
 use Rattle.cr_model.specs.Callings.{shortest, step_at}
 use Rattle.cr_model.specs.Queries.{cap}
 use Rattle.cr_model.specs.Limits.{most_steps, most_leads, most_parts}
-use Rattle.cr_model.specs.Checks.{Check, one_fault, each_index, IsFirstFailure}
-pub use Rattle.cr_model.specs.Checks.{IsFirstWrong}
+use Rattle.cr_model.specs.Checks.{Check, one_fault, each_index, IsFirstWrong, IsFirstFailure}
 use Rattle.cr_model.specs.Right.{LetterIsRight, LettersAreRight, LeadIsRight, LeadsAreRight, LimitsAreRight, CountIsRight, count_at, MethodCountIsRight, method_count_at, PatternIsRight, pattern_at, ComIsRight}
 
 -- there are no letters, or this one is the first that is wrong

@@ -1,10 +1,10 @@
 -- The keys of a problem file, and every key of a table that is missing, unknown or of the wrong kind, in order.
-use Rattle.std.specs.Prelude.{ℕ, ◌+◌, Bool, true, false, cond, not, ◌&&◌, ◌||◌, nat_eq, nat_le, List, [], ◌∷◌}
+use Rattle.std.specs.Prelude.{ℕ, ◌+◌, Bool, true, false, cond, not, ◌&&◌, nat_eq, nat_le, List, [], ◌∷◌}
 use Rattle.std.specs.Prelude.{◌++◌, length, map, flat_map, Option, Some, None, is_some, unwrap_or}
 use Rattle.std.specs.Prelude.{option_and_then, ℤ, codes, decimal}
 use Rattle.std.specs.List.{list_any, list_all}
 use Rattle.std.specs.Cmp.Lexicographic.{pointwise}
-use Rattle.toml.specs.Data.{Data, string, integer, array, table, Items, no_items, item, Members, no_members}
+use Rattle.toml.specs.Data.{Data, string, array, table, Items, no_items, item, Members, no_members}
 use Rattle.toml.specs.Data.{member, get_member, as_str, as_integer, as_table}
 use Rattle.cr_model.specs.Limits.{most_methods, most_counts, most_patterns}
 

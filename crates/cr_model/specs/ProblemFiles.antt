@@ -1,7 +1,7 @@
 -- Which bytes are a problem file, and of which problem; and why others are none.
-use Rattle.std.specs.Prelude.{◌≡◌, ◌≢◌, ℕ, ◌-◌, ◌+◌, ◌<◌, ◌≤◌, ◌⊎◌, ℤ, pos, ◌≤ℤ◌, nat_abs, Bool, true, cond}
+use Rattle.std.specs.Prelude.{◌≡◌, ◌≢◌, ℕ, ◌<◌, ◌≤◌, pos, ◌≤ℤ◌, nat_abs, Bool, true, cond}
 use Rattle.std.specs.Prelude.{◌&&◌, nat_eq, List, [], ◌∷◌, length, get_or, map, flat_map, Option, Some, None}
-use Rattle.std.specs.Prelude.{IfSome, option_map, unwrap_or, codes}
+use Rattle.std.specs.Prelude.{IfSome, option_map, unwrap_or}
 use Rattle.std.specs.List.{range_with_len, list_any, find, AllZip}
 use Rattle.toml.specs.Data.{Members}
 use Rattle.cr_row.specs.Rows.{Places}
@@ -13,7 +13,6 @@ use Rattle.cr_model.specs.declared.query.MethodCount.{MethodCount}
 use Rattle.cr_model.specs.declared.fault.PartFault.{PartFault}
 use Rattle.cr_model.specs.declared.fault.PartFault.TheVariants as part
 use Rattle.cr_model.specs.declared.notation.NotationFault.{NotationFault}
-use Rattle.cr_model.specs.declared.file_fault.Whose.{Whose}
 use Rattle.cr_model.specs.declared.file_fault.Whose.TheVariants as whose
 use Rattle.cr_model.specs.declared.file_fault.ProblemFault.{ProblemFault}
 use Rattle.cr_model.specs.declared.file_fault.ProblemFault.TheVariants as fault
@@ -27,7 +26,7 @@ use Rattle.cr_model.specs.Faults.{IsPartFault}
 use Rattle.cr_model.specs.Notation.{Spells}
 use Rattle.cr_model.specs.NotationFaults.{FirstFault}
 use Rattle.cr_model.specs.Keys.{key_faults}
-use Rattle.cr_model.specs.Files.{MethodText, CallText, Limited, FileParts, Reads, IsFile}
+use Rattle.cr_model.specs.Files.{CallText, Limited, FileParts, Reads, IsFile}
 
 -- the one byte of a text. A text of another length is no letter and no mark, and counts as 0
 abbrev pub byte_of : List ℕ → ℕ

@@ -7,8 +7,7 @@ use Rattle.cr_model.specs.Queries.{cap}
 use Rattle.cr_model.specs.Limits.{most_steps, most_leads, most_parts}
 use Rattle.cr_model.specs.Checks.{AllHold}
 use Rattle.cr_model.specs.Faults.{checks, IsPartFault}
-pub use Rattle.cr_model.specs.Callings.{step_at, changes_at, step_at_is, changes_at_is}
-pub use Rattle.cr_model.specs.Right.{plain, LetterIsRight, LettersAreRight, IsNextMark, IsNextStep, StepIsRight, LeadIsRight, LeadsAreRight, LimitsAreRight, CountIsRight, count_at, MethodCountIsRight, method_count_at, bell_named, is_run, cell_at, FitsStage, CellsAreRight, PatternIsRight, pattern_at, ComIsRight}
+use Rattle.cr_model.specs.Right.{LettersAreRight, LeadsAreRight, LimitsAreRight, CountIsRight, count_at, MethodCountIsRight, method_count_at, PatternIsRight, pattern_at, ComIsRight}
 
 -- 3 to 16 bells, and all checks hold
 pub record IsSound (p : ProblemParts) : Type 0 where

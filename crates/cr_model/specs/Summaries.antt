@@ -6,10 +6,10 @@ use Rattle.std.specs.List.{range_with_len}
 use Rattle.cr_model.specs.Problems.{ProblemParts}
 use Rattle.cr_model.specs.Callings.{length_of}
 
--- the greatest of some numbers, or 0 where there is none
-abbrev pub greatest : List ℕ → ℕ
-greatest [] = 0
-greatest (x ∷ xs) = max x (greatest xs)
+-- the greatest of some lengths, or 0 where there is none
+abbrev pub longest : List ℕ → ℕ
+longest [] = 0
+longest (x ∷ xs) = max x (longest xs)
 
 -- how many touches have a length, of touches of these lengths
 abbrev pub touches_as_long : List ℕ → ℕ → ℕ
@@ -22,14 +22,14 @@ length_line long number = cond (nat_eq number 0) [] (decimal long ++ codes " " +
 -- the lines of the lengths that occur, ascending
 abbrev pub length_lines : List ℕ → List ℕ
 length_lines lengths =
-    flat_map (λ long. length_line long (touches_as_long lengths long)) (range_with_len 0 (greatest lengths + 1))
+    flat_map (λ long. length_line long (touches_as_long lengths long)) (range_with_len 0 (longest lengths + 1))
 
 -- the lines of a summary, of touches of these lengths
 abbrev pub summary_lines : ℤ → List ℕ → List ℕ
 summary_lines most lengths =
     (codes "plain bob minor 1 to " ++ signed_decimal most ++ codes "\n")
     ++ (codes "touches " ++ decimal (length lengths) ++ codes "\n")
-    ++ (codes "longest " ++ decimal (greatest lengths) ++ codes "\n")
+    ++ (codes "longest " ++ decimal (longest lengths) ++ codes "\n")
     ++ length_lines lengths
 
 abbrev pub summary_text : ProblemParts → List (List ℕ) → List ℕ
