@@ -81,18 +81,19 @@ impl RowStack {
     pub fn push(&mut self, row: Row) -> Pushed
         ensures { Pushes self.old row result self.new }
     {
+        let len = self.len;
         let bucket = bucket_of(&row, self.shift);
         let last = self.buckets[bucket];
-        if let Some(place) = place_of(&self.rows, &self.before, self.len, last, &row) {
+        if let Some(place) = place_of(&self.rows, &self.before, len, last, &row) {
             return Pushed::Again(place);
         }
-        if self.len == self.rows.len() {
+        if len == self.rows.len() {
             return Pushed::Full;
         }
-        self.rows[self.len] = row;
-        self.before[self.len] = last;
-        self.len += 1;
-        self.buckets[bucket] = self.len as u32;
+        self.rows[len] = row;
+        self.before[len] = last;
+        self.buckets[bucket] = len as u32 + 1;
+        self.len = len + 1;
         Pushed::Fresh
     }
 

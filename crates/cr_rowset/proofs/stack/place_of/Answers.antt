@@ -5,7 +5,7 @@ use Rattle.cr_rowset.proofs.ReadRows.{other}
 use Rattle.cr_rowset.proofs.stack.place_of.Goals as goal
 
 pub loop-mark-smaller : goal.loop-mark-smaller
-loop-mark-smaller c = goes_down c.args.rows.now c.args.before.now c.args.len c.loop-mark.mark c.args.row.now c.loop-mark.invariant c.loop-mark-test.true
+loop-mark-smaller c = goes_down c.args.rows.now c.args.before.now c.args.len c.loop-mark.mark c.args.row.now c.loop-mark.invariant (omega (arith, c.loop-mark-test.true))
 
 pub loop-mark-preserved : goal.loop-mark-preserved
 loop-mark-preserved c =

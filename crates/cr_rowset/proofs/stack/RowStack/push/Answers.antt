@@ -1,5 +1,5 @@
 -- The look-up begins at the mark of the row's bucket; where it finds nothing, the row is none of those held.
-use Rattle.std.proofs.Common.{◌≡◌, ℕ, ◌+◌, ◌<◌, ◌∙◌, List, length, refl, subst, arith}
+use Rattle.std.proofs.Common.{◌≡◌, ℕ, ◌<◌, ◌∙◌, List, length, refl, subst, arith}
 use Rattle.std.proofs.lemmas.List.{get_or_default}
 use Rattle.cr_rowset.proofs.Linked.{begins}
 use Rattle.cr_rowset.proofs.Held.{IsAway, full, fresh, kept_more}
@@ -15,10 +15,10 @@ place_of-requires-clause-chain c =
     (begins c.self.inside.shift c.self.inside.buckets.items c.self.inside.before.items c.self.inside.rows.items c.self.inside.len c.index-last.result.now c.args.row
     at.result kept.chained inside at.ensures.is read)
 
-pub returns-then-self-len : goal.returns-then-self-len
-returns-then-self-len c =
+pub returns-then-len : goal.returns-then-len
+returns-then-len c =
     let away = subst (λ (rows : List (List ℕ)). IsAway rows c.self.inside.len c.args.row) c.deref.ensures.value (c.in_default.ensures.none refl) in
-    let all : c.self.inside.len ≡ length c.self.inside.rows.items = omega (arith, c.if-self-len.true, c.len.ensures) in
+    let all : c.self.inside.len ≡ length c.self.inside.rows.items = omega (arith, c.if-len.true, c.len.ensures) in
     full c.args.self.now c.self.inside.rows.items c.self.inside.len c.args.row c.self.view_is all away
 
 pub invariant_of-self : goal.invariant_of-self
@@ -28,12 +28,12 @@ invariant_of-self c =
     let away = subst (λ (rows : List (List ℕ)). IsAway rows c.self.inside.len c.args.row) c.deref.ensures.value (c.in_default.ensures.none refl) in
     let inside : at.result < length c.self.inside.buckets.items = omega (arith, at.ensures.within, kept.counted) in
     let read = c.index-last.ensures ∙ get_or_default c.self.inside.buckets.items at.result c.index-last.result.now 0 inside in
-    let room : c.self.inside.len < length c.self.inside.rows.items = omega (arith, kept.within, c.if-self-len.false, c.len.ensures) in
-    kept_more c.self.inside.shift c.self.inside.buckets.items c.self.inside.before.items c.self.inside.rows.items c.self.inside.len (c.self.inside.len + 1)
-    at.result c.index-last.result.now (c.self.inside.len + 1) c.args.row kept refl room at.ensures.is inside read refl away
+    let room : c.self.inside.len < length c.self.inside.rows.items = omega (arith, kept.within, c.if-len.false, c.len.ensures) in
+    kept_more c.self.inside.shift c.self.inside.buckets.items c.self.inside.before.items c.self.inside.rows.items c.self.inside.len _ at.result _ _ c.args.row
+    kept (omega arith) room at.ensures.is inside (omega (arith, read)) (omega arith) away
 
 pub returns : goal.returns
 returns c =
     let away = subst (λ (rows : List (List ℕ)). IsAway rows c.self.inside.len c.args.row) c.deref.ensures.value (c.in_default.ensures.none refl) in
-    let room : c.self.inside.len < length c.self.inside.rows.items = omega (arith, c.self.invariant.within, c.if-self-len.false, c.len.ensures) in
-    fresh c.args.self.now c.self.inside.rows.items c.self.inside.len (c.self.inside.len + 1) c.args.row c.self.view_is refl room away
+    let room : c.self.inside.len < length c.self.inside.rows.items = omega (arith, c.self.invariant.within, c.if-len.false, c.len.ensures) in
+    fresh c.args.self.now c.self.inside.rows.items c.self.inside.len _ c.args.row c.self.view_is (omega arith) room away
