@@ -7,7 +7,7 @@ use Rattle.cr_model.specs.Nodes.{is_prefix, is_above, Independent}
 use Rattle.cr_node.specs.Overlaps.{Item, of_found, of_node, items, item_at, begins, overlaps, ApartBelow}
 
 module _ (p : ProblemParts) (found nodes : List (List ℕ)) where
-  all : List Item
+  abbrev all : List Item
   all = items p found nodes
 
   number : length all ≡ length found + length nodes

@@ -1,5 +1,5 @@
 -- The first item that overlaps another, looked for from the front.
-use Rattle.std.proofs.Common.{◌≡◌, ℕ, ◌+◌, ◌<◌, ◌≤◌, true, false, List, length, get_or, Option, Some, None, inl, inr, refl, sym, ap, ◌∙◌, subst, arith}
+use Rattle.std.proofs.Common.{◌≡◌, ℕ, ◌+◌, ◌<◌, ◌≤◌, true, false, List, [], length, get_or, Option, Some, None, inl, inr, refl, sym, ap, ◌∙◌, subst, arith}
 use Rattle.std.specs.Cmp.Lexicographic.{slice_cmp}
 use Rattle.std.specs.Ordering.{nat_cmp, is_eq, ordering_reverse}
 use Rattle.std.specs.declared.cmp.Ordering.{Ordering}
@@ -14,8 +14,8 @@ use Rattle.cr_node.specs.declared.words.Word.{Word}
 use Rattle.cr_node.specs.Overlaps.{Item, of_node, item_at, overlaps, ApartBelow, ComesFirst, IsLeastBelow, TellsLeast, item_of, items_of}
 
 -- the item of a word that is read
-pub item_here : (words : List Word) (k : ℕ) (word : Word) → k < length words → word ≡ get_or words k word → item_at (items_of words) k ≡ item_of word
-item_here words k word inside is = get_or-map item_of words k word (of_node []) inside ∙ ap item_of (sym is)
+pub item_read : (words : List Word) (k : ℕ) (word : Word) → k < length words → item_at (items_of words) k ≡ item_of (get_or words k word)
+item_read words k word inside = get_or-map item_of words k word (of_node []) inside
 
 -- where the first of two words is not less, the second comes first
 not_less_follows : (all : List Item) (i k : ℕ) → i ≤ k → (IsLess (item_at all k).word (item_at all i).word → ⊥) → ComesFirst all i k
@@ -33,10 +33,11 @@ less_onward all i j k less (inr same) = subst (λ (word : List ℕ). IsLess (ite
 module _ (all : List Item) (item : Item) (number : ℕ) where
   -- an item that does not overlap changes nothing
   pub keeps : (least : Option ℕ) → TellsLeast all item number least → overlaps (item_at all number) item ≡ false → TellsLeast all item (number + 1) least
-  keeps None none apart k below = elim (cases_lt k number) [
-    | inl low ↦ none k low
-    | inr high ↦ let last : k ≡ number = omega arith in ap (λ j. overlaps (item_at all j) item) last ∙ apart
-  ]
+  keeps None none apart = λ k below.
+      elim (cases_lt k number) [
+        | inl low ↦ none k low
+        | inr high ↦ let last : k ≡ number = omega arith in ap (λ j. overlaps (item_at all j) item) last ∙ apart
+      ]
   keeps (Some i) first apart = record {
     below = omega (arith, first.below);
     meets = first.meets;

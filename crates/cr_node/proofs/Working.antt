@@ -9,7 +9,7 @@ use Rattle.cr_model.specs.Nodes.{part_of, is_prefix, is_above, IsValid, nodes_ab
 use Rattle.cr_node.specs.Work.{IsJob, IsDone}
 use Rattle.cr_node.proofs.Order.{comparable}
 
-NodesApart : List (List ℕ) → Type 0
+abbrev NodesApart : List (List ℕ) → Type 0
 NodesApart nodes = (i j : ℕ) → i < length nodes → j < length nodes → i ≢ j → is_prefix (get_or nodes i []) (get_or nodes j []) ≡ false
 
 apart_after : (node : List ℕ) (nodes : List (List ℕ)) → NodesApart (node ∷ nodes) → NodesApart nodes
@@ -74,3 +74,9 @@ not_begun splits p nodes job = record {
   splits = splits p nodes job.valid job.independent;
   size = omega arith;
 }
+
+-- where nothing is left, the turns are the job's size
+pub turns_are_size : (p : ProblemParts) (job found : List (List ℕ)) (used : ℕ) → IsDone p job found [] used → used ≡ size_of_all p most_rows job
+turns_are_size p job found used done =
+    let none : size_of_all p most_rows [] ≡ 0 = refl in
+    omega (arith, done.size)
