@@ -4,4 +4,5 @@ pub mod Apart
 pub mod Pairs
 pub mod Least
 pub mod Taken
+pub mod Found
 pub mod Working

@@ -1,6 +1,7 @@
 -- Finished work: whole where nothing is left, and one after another.
 use Rattle.std.proofs.Common.{◌≡◌, ◌≢◌, ℕ, suc, ◌+◌, ◌<◌, ◌≤◌, true, false, cond, List, [], ◌∷◌, ◌++◌, length, get_or, All, inl, inr, refl, sym, ap, ◌∙◌, arith}
 use Rattle.std.proofs.lemmas.Bool.{true≢false, cases_Bool, false_from_ne_true}
+use Rattle.std.proofs.lemmas.List.Elements.{All-nil, All-cons}
 use Rattle.std.proofs.lemmas.List.Sums.{sum_by-cons}
 use Rattle.cr_model.specs.Problems.{ProblemParts}
 use Rattle.cr_model.specs.Sizes.{most_rows, size_of_all}
@@ -80,3 +81,14 @@ pub turns_are_size : (p : ProblemParts) (job found : List (List ℕ)) (used : �
 turns_are_size p job found used done =
     let none : size_of_all p most_rows [] ≡ 0 = refl in
     omega (arith, done.size)
+
+-- the root is valid, and alone
+pub root_is_job : (p : ProblemParts) → IsJob p ([] ∷ [])
+root_is_job p = record {
+  some = omega arith;
+  valid = All-cons (IsValid p) [] [] (record { steps = All-nil (λ step. step < length p.leads); short = omega arith }) (All-nil (IsValid p));
+  independent = record {
+    nodes_apart = λ i j inside within other. absurd (omega (arith, inside, within, other));
+    found_apart = λ i j inside within. absurd (omega (arith, within));
+  };
+}

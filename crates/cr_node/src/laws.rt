@@ -1,11 +1,11 @@
 //! Laws of overlaps and of finished work. Each is the contract of a function that does nothing.
 
-ghost use Rattle.std.specs.Prelude.{◌≡◌, ℕ, ◌+◌, ◌≤◌, ◌↔◌, List, [], ◌++◌, length, All};
+ghost use Rattle.std.specs.Prelude.{◌≡◌, ℕ, ◌+◌, ◌≤◌, ◌↔◌, true, false, List, [], ◌∷◌, ◌++◌, length, map, All};
 ghost use Rattle.cr_model.specs.Problems.{ProblemParts};
 ghost use Rattle.cr_model.specs.Nodes.{nodes_above, times_found, Independent};
 ghost use Rattle.cr_model.specs.Sizes.{most_rows, size_of_all};
 ghost use Rattle.cr_model.specs.Touches.{Kept};
-ghost use Rattle.cr_node.specs.Overlaps.{Item, items, ApartBelow, IsFirstOverlap};
+ghost use Rattle.cr_node.specs.Overlaps.{Item, of_node, items, overlaps, ApartBelow, IsFirstOverlap};
 ghost use Rattle.cr_node.specs.Work.{IsJob, IsDone};
 
 use cr_model::laws::splits_follow_one_another;
@@ -14,6 +14,24 @@ use cr_model::laws::splits_follow_one_another;
 pub fn independent_items_do_not_overlap()
     ensures { (p : ProblemParts) (found nodes : List (List ℕ))
         → Independent p found nodes ↔ ApartBelow (items p found nodes) (length (items p found nodes)) }
+{}
+
+/// Where found touches and nodes are not independent, some pair is the first overlap.
+pub fn some_pair_overlaps_first()
+    ensures { (p : ProblemParts) (found nodes : List (List ℕ)) → (Independent p found nodes → ⊥)
+        → (i j : ℕ) × IsFirstOverlap (items p found nodes) i j }
+{}
+
+/// Nodes overlap where one begins the other or both are equal. A node overlaps a found touch that it begins or is, and
+/// none that begins it. Found touches never overlap.
+pub fn items_overlap_at_their_edges()
+    ensures nodes { map (overlaps (of_node (0 ∷ [])))
+        (of_node [] ∷ of_node (0 ∷ []) ∷ of_node (1 ∷ []) ∷ of_node (0 ∷ 1 ∷ []) ∷ of_node (1 ∷ 0 ∷ []) ∷ [])
+        ≡ true ∷ true ∷ false ∷ true ∷ false ∷ [] }
+    ensures found { map (λ word. overlaps (record { word = word; found = true }) (of_node (0 ∷ 1 ∷ [])))
+        ([] ∷ (0 ∷ []) ∷ (0 ∷ 1 ∷ []) ∷ (0 ∷ 1 ∷ 0 ∷ []) ∷ (1 ∷ 1 ∷ []) ∷ [])
+        ≡ false ∷ false ∷ true ∷ true ∷ false ∷ [] }
+    ensures both { overlaps (record { word = 0 ∷ []; found = true }) (record { word = 0 ∷ []; found = true }) ≡ false }
 {}
 
 /// Of some items one pair at most is the first overlap, and none where no two overlap.
@@ -33,8 +51,10 @@ pub fn a_job_without_rest_is_found_whole()
         → used ≡ size_of_all p most_rows job }
 {}
 
-/// A job that is not begun is finished work of no turns, and work on what is left of a job goes on with the job's.
+/// The root is a job. A job that is not begun is finished work of no turns, and work on what is left of a job goes on
+/// with the job's.
 pub fn work_goes_on()
+    ensures root { (p : ProblemParts) → IsJob p ([] ∷ []) }
     ensures not_begun { (p : ProblemParts) (nodes : List (List ℕ)) → IsJob p nodes → IsDone p nodes [] nodes 0 }
     ensures onward { (p : ProblemParts) (job found rest more left : List (List ℕ)) (used further : ℕ)
         → IsDone p job found rest used → IsDone p rest more left further
