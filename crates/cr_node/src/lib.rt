@@ -1,0 +1,17 @@
+//! Nodes, finished work on them, and what explores them.
+#![tactic(auto)]
+
+mod done;
+mod explorer;
+mod independence;
+pub mod laws;
+mod node;
+mod words;
+
+pub use done::{Done, DoneParts};
+pub use explorer::Explorer;
+pub use independence::independent;
+pub use node::{is_prefix, less, Node};
+
+#[cfg(test)]
+mod tests;
