@@ -1,0 +1,20 @@
+-- How the rows of all leads stand in one list, one lead's after another's.
+use Rattle.std.specs.Prelude.{ℕ, ◌≤◌, List, length, map, All}
+use Rattle.std.specs.List.{between}
+use Rattle.cr_leads.specs.declared.table.Span.{Span}
+
+-- the rows of the lead at a span
+abbrev pub rows_at : List (List ℕ) → Span → List (List ℕ)
+rows_at rows span = between span.start span.end rows
+
+-- the leads' rows, lead by lead
+abbrev pub leads_in : List (List ℕ) → List Span → List (List (List ℕ))
+leads_in rows spans = map (rows_at rows) spans
+
+-- a span is within so many rows
+pub record IsWithin (number : ℕ) (span : Span) : Type 0 where
+  pub order : span.start ≤ span.end
+  pub inside : span.end ≤ number
+
+abbrev pub AreWithin : List (List ℕ) → List Span → Type 0
+AreWithin rows spans = All (IsWithin (length rows)) spans
