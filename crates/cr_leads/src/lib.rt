@@ -9,3 +9,6 @@ mod table;
 
 pub use rung::Rung;
 pub use table::LeadTable;
+
+#[cfg(test)]
+mod tests;
