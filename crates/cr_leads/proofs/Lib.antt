@@ -1,4 +1,4 @@
-pub mod SeenRows
+pub mod Keys
 pub mod LastRows
 pub mod Laying
 pub mod SoundTables

@@ -1,13 +1,13 @@
 -- What holds of the table of a problem.
 use Rattle.std.proofs.Common.{◌≡◌, ℕ, suc, ◌+◌, ◌<◌, ◌≤◌, List, [], ◌∷◌, ◌++◌, length, get_or, map, refl, sym, ap, ap₂, ◌∙◌, subst, arith, append-nil}
-use Rattle.std.specs.List.{All, range_with_len}
+use Rattle.std.specs.List.{range_with_len}
 use Rattle.std.proofs.lemmas.List.Elements.{All-nil, All-cons, All-map}
 use Rattle.std.proofs.lemmas.List.FromFn.{get_or-range_with_len, length-range_with_len, length-map-range_with_len, map-range_with_len_more}
 use Rattle.cr_row.specs.Rows.{Places, IsRow, rounds, after}
 use Rattle.cr_model.specs.Problems.{ProblemParts}
 use Rattle.cr_model.specs.Callings.{changes_of, rows_from, rows_of}
 use Rattle.cr_model.specs.Limits.{most_steps, most_lead_changes}
-use Rattle.cr_model.specs.Right.{LeadIsRight, AreOfStage}
+use Rattle.cr_model.specs.Right.{AreOfStage}
 use Rattle.cr_model.specs.Sound.{IsSound, sound_leads, sound_steps}
 use Rattle.cr_leads.specs.Tables.{AreRows, IsLead, IsTable, table_from, lead_table}
 

@@ -1,13 +1,12 @@
 -- Steps rung one after another, by the rows that each has from rounds.
 use Rattle.std.proofs.Common.{◌≡◌, ℕ, ◌+◌, ◌<◌, List, [], ◌∷◌, ◌++◌, length, get_or, map, take, sym, ap, ap₂, ◌∙◌, subst}
-use Rattle.std.specs.List.{All}
-use Rattle.std.proofs.lemmas.List.{take_more, get_or_default}
+use Rattle.std.proofs.lemmas.List.{take_more}
 use Rattle.std.proofs.lemmas.List.Elements.{All-map, All-append, All-weaker}
 use Rattle.cr_row.specs.Rows.{IsRow, rounds, product}
 use Rattle.cr_model.proofs.Ringing.{last_of-append}
 use Rattle.cr_model.specs.Problems.{ProblemParts}
 use Rattle.cr_model.specs.Callings.{last_of, rows_of, head_of}
-use Rattle.cr_leads.specs.Tables.{TableParts, lead_table, AreRows, IsLead}
+use Rattle.cr_leads.specs.Tables.{TableParts, lead_table, AreRows}
 use Rattle.cr_leads.proofs.LastRows.{last_holds}
 
 -- the laws of products that ringing by leads rests on

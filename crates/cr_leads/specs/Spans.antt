@@ -2,6 +2,7 @@
 use Rattle.std.specs.Prelude.{ℕ, ◌≤◌, List, length, map, All}
 use Rattle.std.specs.List.{between}
 use Rattle.cr_leads.specs.declared.table.Span.{Span}
+use Rattle.cr_leads.specs.Tables.{table_from, IsTable}
 
 -- the rows of the lead at a span
 abbrev pub rows_at : List (List ℕ) → Span → List (List ℕ)
@@ -18,3 +19,8 @@ pub record IsWithin (number : ℕ) (span : Span) : Type 0 where
 
 abbrev pub AreWithin : List (List ℕ) → List Span → Type 0
 AreWithin rows spans = All (IsWithin (length rows)) spans
+
+-- what a table keeps
+pub record AreKept (stage : ℕ) (rows : List (List ℕ)) (spans : List Span) : Type 0 where
+  pub table : IsTable (table_from stage (leads_in rows spans))
+  pub within : AreWithin rows spans

@@ -1,7 +1,7 @@
 -- Lead tables, as contracts see them: the stage, and of each step the rows that it has when it is rung alone.
 use Rattle.std.specs.Prelude.{◌≡◌, ℕ, ◌<◌, ◌≤◌, List, [], ◌∷◌, length, get_or, map, All}
 use Rattle.std.specs.List.{range_with_len}
-use Rattle.std.proofs.Common.{◌+◌, sym, ap, ◌∙◌, subst, arith}
+use Rattle.std.proofs.Common.{sym, ap, ◌∙◌, subst, arith}
 use Rattle.std.proofs.lemmas.List.FromFn.{get_or-map-range_with_len, length-map-range_with_len}
 use Rattle.cr_row.specs.Rows.{IsRow, rounds}
 use Rattle.cr_model.specs.Problems.{ProblemParts}
@@ -34,6 +34,10 @@ HasLeads table calling = All (λ step. step < length table.leads) calling
 abbrev pub AreRows : ℕ → List (List ℕ) → Type 0
 AreRows stage rows = All (λ row. IsRow row × (length row ≡ stage)) rows
 
+-- rows of one stage, whichever
+abbrev pub HaveOneStage : List (List ℕ) → Type 0
+HaveOneStage rows = (stage : ℕ) × (stage ≤ 16) × AreRows stage rows
+
 -- the rows of a lead
 pub record IsLead (stage : ℕ) (rows : List (List ℕ)) : Type 0 where
   pub some : 1 ≤ length rows
@@ -47,29 +51,30 @@ pub record IsTable (table : TableParts) : Type 0 where
   pub few : length table.leads ≤ most_steps
   pub leads : All (IsLead table.stage) table.leads
 
--- the steps of a problem are those of its table
+-- a problem has as many steps as its table
+pub leads_counted : (table : TableParts) (p : ProblemParts) → table ≡ lead_table p → length table.leads ≡ length p.leads
+leads_counted table p is =
+    ap (λ (t : TableParts). length t.leads) is
+    ∙ length-map-range_with_len (λ step. rows_of p (step ∷ [])) 0 (length p.leads)
+
+-- and the same steps
 pub leads_known : (table : TableParts) (p : ProblemParts) (calling : List ℕ) → table ≡ lead_table p
     → HasSteps p calling → HasLeads table calling
 leads_known table p calling is known =
-    let long : length table.leads ≡ length p.leads =
-    ap (λ (t : TableParts). length t.leads) is ∙ length-map-range_with_len (λ step. rows_of p (step ∷ [])) 0 (length p.leads) in
-    λ k d within. subst (λ n. get_or calling k d < n) (sym long) (known k d within)
+    λ k d within. subst (λ n. get_or calling k d < n) (sym (leads_counted table p is)) (known k d within)
 
 pub steps_known : (table : TableParts) (p : ProblemParts) (calling : List ℕ) → table ≡ lead_table p
     → HasLeads table calling → HasSteps p calling
 steps_known table p calling is known =
-    let long : length table.leads ≡ length p.leads =
-    ap (λ (t : TableParts). length t.leads) is ∙ length-map-range_with_len (λ step. rows_of p (step ∷ [])) 0 (length p.leads) in
-    λ k d within. subst (λ n. get_or calling k d < n) long (known k d within)
+    λ k d within. subst (λ n. get_or calling k d < n) (leads_counted table p is) (known k d within)
 
 -- the rows and the head of a step, in its problem's table
 pub rows_of_step : (table : TableParts) (p : ProblemParts) (step : ℕ) → table ≡ lead_table p
     → step < length table.leads → lead_rows table step ≡ rows_of p (step ∷ [])
 rows_of_step table p step is known =
-    let long : length table.leads ≡ length p.leads =
-    ap (λ (t : TableParts). length t.leads) is ∙ length-map-range_with_len (λ step. rows_of p (step ∷ [])) 0 (length p.leads) in
+    let within : step < length p.leads = subst (λ n. step < n) (leads_counted table p is) known in
     ap (λ (t : TableParts). lead_rows t step) is
-    ∙ get_or-map-range_with_len (λ step. rows_of p (step ∷ [])) 0 (length p.leads) step step [] (subst (λ n. step < n) long known) (omega arith)
+    ∙ get_or-map-range_with_len (λ step. rows_of p (step ∷ [])) 0 (length p.leads) step step [] within (omega arith)
 
 pub head_of_step : (table : TableParts) (p : ProblemParts) (step : ℕ) → table ≡ lead_table p
     → step < length table.leads → lead_head table step ≡ head_of p (step ∷ [])

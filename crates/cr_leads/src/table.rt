@@ -36,15 +36,15 @@ pub struct LeadTable {
 }
 
 impl Model for LeadTable {
-    ghost use Rattle.cr_leads.specs.Tables.{TableParts, table_from, IsTable};
+    ghost use Rattle.cr_leads.specs.Tables.{TableParts, table_from};
 
     ghost Value = { TableParts };
 
-    ghost use Rattle.cr_leads.specs.Spans.{leads_in, AreWithin};
+    ghost use Rattle.cr_leads.specs.Spans.{leads_in, AreKept};
 
     ghost view = { λ t. table_from t.stage (leads_in t.rows.items t.spans.items) };
 
-    ghost invariant = { λ t. IsTable (table_from t.stage (leads_in t.rows.items t.spans.items)) × AreWithin t.rows.items t.spans.items };
+    ghost invariant = { λ t. AreKept t.stage t.rows.items t.spans.items };
 }
 
 impl LeadTable {
@@ -75,6 +75,7 @@ impl LeadTable {
     /// The number of steps: a step exists exactly where it is below this.
     pub fn count(&self) -> u8
         ensures is { result ≡ length self.now.leads }
+        ensures of_problem { (p : ProblemParts) → self.now ≡ lead_table p → result ≡ length p.leads }
         ensures sound { IsTable self.now }
     {
         self.spans.len() as u8
@@ -175,7 +176,8 @@ fn head_of_all(table: &LeadTable, steps: &[u8]) -> Row
 // The rows of some steps, rung one after another.
 fn rows_of_all(alloc: Global, table: &LeadTable, steps: &[u8]) -> Result<Vec<Row>, NoMemory>
     requires { HasLeads table.now steps.now }
-    ensures is { IfOk result (λ rows. (p : ProblemParts) → table.now ≡ lead_table p → rows.items ≡ rows_of p steps.now) }
+    ensures is { IfOk result (λ rows.
+        (p : ProblemParts) → table.now ≡ lead_table p → rows.items ≡ rows_of p steps.now) }
     ensures rows { IfOk result (λ rows. AreRows table.now.stage rows.items) }
 {
     joined_callings_multiply();

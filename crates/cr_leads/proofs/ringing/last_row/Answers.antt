@@ -1,5 +1,4 @@
-use Rattle.std.proofs.Common.{length, ◌-◌, sym, ◌∙◌, arith}
-use Rattle.std.proofs.lemmas.List.{get_or_default}
+use Rattle.std.proofs.Common.{◌∙◌}
 use Rattle.cr_leads.proofs.LastRows.{last_at}
 use Rattle.cr_leads.proofs.ringing.last_row.Goals as goal
 

@@ -1,4 +1,4 @@
-use Rattle.std.proofs.Common.{◌≡◌, ◌+◌, ◌++◌, [], ◌∷◌, length, get_or, drop, suc, sym, ap, ◌∙◌, arith, append_assoc, add-one, drop-cons}
+use Rattle.std.proofs.Common.{◌≡◌, ◌+◌, ◌++◌, [], ◌∷◌, drop, suc, sym, ap, ◌∙◌, arith, append_assoc, add-one, drop-cons}
 use Rattle.cr_row.specs.Rows.{after}
 use Rattle.cr_model.specs.Callings.{rows_from}
 use Rattle.cr_leads.proofs.ringing.ring_changes.Goals as goal

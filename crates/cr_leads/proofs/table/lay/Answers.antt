@@ -1,4 +1,4 @@
-use Rattle.std.proofs.Common.{◌≡◌, ◌++◌, length, ap, ◌∙◌, arith}
+use Rattle.std.proofs.Common.{◌≡◌, ◌++◌, ap, ◌∙◌, arith}
 use Rattle.cr_row.specs.Rows.{rounds}
 use Rattle.cr_model.specs.Callings.{rows_from}
 use Rattle.cr_leads.proofs.Laying.{leads_more}

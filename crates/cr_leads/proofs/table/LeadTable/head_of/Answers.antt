@@ -1,5 +1,5 @@
 use Rattle.std.proofs.Common.{◌≡◌, [], length, sym, subst}
-use Rattle.cr_row.specs.Rows.{IsRow, rounds}
+use Rattle.cr_row.specs.Rows.{IsRow}
 use Rattle.cr_leads.proofs.LastRows.{last_of_some}
 use Rattle.cr_leads.proofs.table.LeadTable.head_of.Goals as goal
 

@@ -41,7 +41,11 @@ invariant_of-result c =
     let all : index ≡ length p.leads = subst (λ leads. index ≡ length leads) c.leads-leads.ensures.is (omega arith) in
     let is : table_from c.stage-stage.result (leads_in c.loop-lead.rows.items c.loop-lead.spans.items) ≡ lead_table p =
     whole_table p index c.stage-stage.result (leads_in c.loop-lead.rows.items c.loop-lead.spans.items) c.stage-stage.ensures.is all c.loop-lead.invariant.leads in
-    (subst IsTable (sym is) (sound_table c.change_of_a_row.ensures.row c.change_of_a_row.ensures.same_length c.rounds_is_neutral.ensures.row c.rounds_is_neutral.ensures.length p c.stage-stage.ensures.sound), c.loop-lead.invariant.within)
+    record {
+      table = subst IsTable (sym is) (sound_table c.change_of_a_row.ensures.row c.change_of_a_row.ensures.same_length
+          c.rounds_is_neutral.ensures.row c.rounds_is_neutral.ensures.length p c.stage-stage.ensures.sound);
+      within = c.loop-lead.invariant.within;
+    }
 
 pub returns : goal.returns
 returns c =

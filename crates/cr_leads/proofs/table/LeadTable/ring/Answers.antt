@@ -9,3 +9,6 @@ returns-clause-is c = λ p is.
     (c.in_ok-rows.ensures.is p is ∙ ap (rows_of p) c.steps.ensures.is)
     (rw (c.deref.ensures.value, c.stage.ensures.is) at c.ends_in_rounds-home.ensures)
     (rw c.deref-2.ensures.value at c.in_ok-distinct.ensures)
+
+pub rows_differ-requires : goal.rows_differ-requires
+rows_differ-requires c = (c.args.self.now.stage, c.stage.ensures.sound.to, rw c.deref-2.ensures.value c.in_ok-rows.ensures.rows)
