@@ -1,6 +1,10 @@
 -- The last of some rows.
 use Rattle.std.proofs.Common.{◌≡◌, ◌≢◌, ℕ, suc, ◌-◌, ◌≤◌, List, [], ◌∷◌, length, get_or, refl, ap, ◌∙◌, arith}
+use Rattle.std.specs.Bool.{Decides}
+use Rattle.std.specs.Cmp.Lexicographic.{pointwise}
 use Rattle.std.specs.List.{All}
+use Rattle.std.specs.Prelude.{nat_eq}
+use Rattle.std.proofs.lemmas.Slice.Eq.{bytes_eq-Decides}
 use Rattle.std.proofs.lemmas.List.Elements.{All-head, All-tail}
 use Rattle.cr_model.specs.Callings.{last_of}
 
@@ -25,3 +29,7 @@ last_of_some P row (next ∷ rows) some all = last_holds P next rows (All-head P
 -- some rows are not none
 pub some_rows : {X : Type 0} (xs : List X) → 1 ≤ length xs → xs ≢ []
 some_rows xs some = λ none. absurd (let long : length xs ≡ 0 = ap length none in omega (arith, long))
+
+-- rows that are told to be the same are one
+pub same_rows : (a b : List ℕ) → Decides (pointwise nat_eq a b) (a ≡ b)
+same_rows a b = bytes_eq-Decides a b

@@ -1,7 +1,8 @@
 //! Rows that all differ.
 
 ghost use Rattle.std.specs.Prelude.{◌≡◌, ◌↔◌, map, IsTrue, IfOk};
-ghost use Rattle.std.specs.List.Sorted.{IsStrictlyIncreasing};
+ghost use Rattle.std.specs.List.Sorted.{IsPermutation, IsSorted, IsStrictlyIncreasing};
+ghost use Rattle.std.specs.Ordering.{nat_cmp};
 ghost use Rattle.cr_row.specs.Packed.{key_of};
 ghost use Rattle.cr_model.specs.Callings.{AllDiffer};
 ghost use Rattle.cr_leads.specs.Tables.{HaveOneStage};
@@ -15,9 +16,18 @@ pub fn rows_differ(alloc: Global, rows: &[Row]) -> Result<bool, NoMemory>
     ensures { IfOk result (λ differ. IsTrue differ ↔ AllDiffer rows.now) }
 {
     keys_tell_rows_apart();
-    let mut keys = keys_of(alloc, rows)?;
-    keys.sort_unstable();
+    let keys = sorted(keys_of(alloc, rows)?);
     Ok(ascend(&keys))
+}
+
+// The numbers in their order.
+fn sorted(numbers: Vec<u64>) -> Vec<u64>
+    ensures moved { IsPermutation numbers.items result.items }
+    ensures ordered { IsSorted nat_cmp result.items }
+{
+    let mut sorted = numbers;
+    sorted.sort_unstable();
+    sorted
 }
 
 fn keys_of(alloc: Global, rows: &[Row]) -> Result<Vec<u64>, NoMemory>

@@ -34,6 +34,7 @@ pub fn ring_lead(rows: &mut Vec<Row>, head: Row, lead: &[Row]) -> Result<Row, No
 }
 
 /// The last of some rows.
+#[tactic(auto, using(crate::proofs::LastRows::last_at))]
 pub fn last_row(rows: &[Row]) -> Row
     requires { 1 ≤ length rows.now }
     ensures { (row : List ℕ) → result ≡ last_of row rows.now }
@@ -42,11 +43,19 @@ pub fn last_row(rows: &[Row]) -> Row
 }
 
 /// Whether there is a last row, and it is rounds.
+#[tactic(auto, using(crate::proofs::LastRows::some_rows))]
 pub fn ends_in_rounds(rows: &[Row], stage: Stage) -> bool
     ensures { IsTrue result ↔ ((rows.now ≢ []) × (last_of (rounds stage) rows.now ≡ rounds stage)) }
 {
     if rows.is_empty() {
         return false;
     }
-    last_row(rows) == Row::rounds(stage)
+    is_rounds(last_row(rows), stage)
+}
+
+#[tactic(auto, using(crate::proofs::LastRows::same_rows))]
+fn is_rounds(row: Row, stage: Stage) -> bool
+    ensures { IsTrue result ↔ (row ≡ rounds stage) }
+{
+    row == Row::rounds(stage)
 }
