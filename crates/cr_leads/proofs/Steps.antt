@@ -12,9 +12,12 @@ use Rattle.cr_leads.proofs.LastRows.{last_holds}
 -- the laws of products that ringing by leads rests on
 pub record ProductLaws : Type 0 where
   pub rows : (p : ProblemParts) (calling more : List ℕ) → rows_of p (calling ++ more) ≡ rows_of p calling ++ map (product (head_of p calling)) (rows_of p more)
-  pub head : (p : ProblemParts) (calling more : List ℕ) → head_of p (calling ++ more) ≡ product (head_of p calling) (head_of p more)
   pub row : (h r : List ℕ) → IsRow h → IsRow r → length h ≡ length r → IsRow (product h r)
   pub long : (h r : List ℕ) → length (product h r) ≡ length r
+
+-- heads multiply
+abbrev pub Heads : Type 0
+Heads = (p : ProblemParts) (calling more : List ℕ) → head_of p (calling ++ more) ≡ product (head_of p calling) (head_of p more)
 
 -- a row of a stage
 abbrev pub IsRowOf : ℕ → List ℕ → Type 0
@@ -45,17 +48,17 @@ products_are_rows laws stage head lead h all =
 taken : (steps : List ℕ) (index step : ℕ) → index < length steps → step ≡ get_or steps index 0 → take (index + 1) steps ≡ take index steps ++ step ∷ []
 taken steps index step within at = take_more steps index 0 within ∙ ap (λ s. take index steps ++ s ∷ []) (sym at)
 
-pub head_more : ProductLaws → (table : TableParts) (steps : List ℕ) (index step : ℕ) (head lead_head next : List ℕ)
+pub head_more : Heads → (table : TableParts) (steps : List ℕ) (index step : ℕ) (head next : List ℕ)
     → IsHead table steps index head → index < length steps → step ≡ get_or steps index 0
-    → ((p : ProblemParts) → table ≡ lead_table p → lead_head ≡ head_of p (step ∷ [])) → IsRowOf table.stage lead_head
-    → next ≡ product head lead_head → IsHead table steps (index + 1) next
-head_more laws table steps index step head lead_head next before within at of_problem row is = record {
+    → ((p : ProblemParts) → table ≡ lead_table p → next ≡ product head (head_of p (step ∷ []))) → IsRowOf table.stage next
+    → IsHead table steps (index + 1) next
+head_more heads table steps index step head next before within at is row = record {
   is = λ p table_is.
-      is
-      ∙ ap₂ product (before.is p table_is) (of_problem p table_is)
-      ∙ sym (laws.head p (take index steps) (step ∷ []))
+      is p table_is
+      ∙ ap (λ h. product h (head_of p (step ∷ []))) (before.is p table_is)
+      ∙ sym (heads p (take index steps) (step ∷ []))
       ∙ ap (head_of p) (sym (taken steps index step within at));
-  row = subst (IsRowOf table.stage) (sym is) (product_row laws table.stage head lead_head before.row row);
+  row = row;
 }
 
 pub rows_more : ProductLaws → (table : TableParts) (steps : List ℕ) (index step : ℕ) (head next : List ℕ) (rows lead now : List (List ℕ))

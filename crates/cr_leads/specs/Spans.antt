@@ -12,15 +12,15 @@ rows_at rows span = between span.start span.end rows
 abbrev pub leads_in : List (List ℕ) → List Span → List (List (List ℕ))
 leads_in rows spans = map (rows_at rows) spans
 
--- a span is within so many rows
-pub record IsWithin (number : ℕ) (span : Span) : Type 0 where
+-- a span is inside so many rows
+pub record IsInside (number : ℕ) (span : Span) : Type 0 where
   pub order : span.start ≤ span.end
-  pub inside : span.end ≤ number
+  pub end : span.end ≤ number
 
-abbrev pub AreWithin : List (List ℕ) → List Span → Type 0
-AreWithin rows spans = All (IsWithin (length rows)) spans
+abbrev pub AreInside : List (List ℕ) → List Span → Type 0
+AreInside rows spans = All (IsInside (length rows)) spans
 
 -- what a table keeps
 pub record AreKept (stage : ℕ) (rows : List (List ℕ)) (spans : List Span) : Type 0 where
   pub table : IsTable (table_from stage (leads_in rows spans))
-  pub within : AreWithin rows spans
+  pub within : AreInside rows spans

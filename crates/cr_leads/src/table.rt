@@ -1,11 +1,11 @@
 //! Lead tables.
 
 ghost use Rattle.std.specs.Prelude.{◌≡◌, ℕ, ◌<◌, ◌≤◌, List, [], ◌∷◌, ◌++◌, length, get_or, All, IfOk};
-ghost use Rattle.cr_row.specs.Rows.{IsRow, rounds};
+ghost use Rattle.cr_row.specs.Rows.{IsRow, rounds, product};
 ghost use Rattle.cr_model.specs.Problems.{ProblemParts};
 ghost use Rattle.cr_model.specs.Callings.{rows_from, rows_of, head_of};
 ghost use Rattle.cr_leads.specs.Tables.{lead_table, lead_rows, lead_head, HasLeads, AreRows, IsLead, IsTable};
-ghost use Rattle.cr_leads.specs.Spans.{leads_in, AreWithin};
+ghost use Rattle.cr_leads.specs.Spans.{leads_in, AreInside};
 ghost use Rattle.cr_leads.specs.Rungs.{IsRung};
 
 use crate::differing::rows_differ;
@@ -135,8 +135,8 @@ fn lay(
     changes: &[Change],
 ) -> Result<(), NoMemory>
     requires staged { All (λ change. change.stage ≡ stage) changes.now }
-    requires within { AreWithin rows.old.items spans.old.items }
-    ensures within { IfOk result (λ _. AreWithin rows.new.items spans.new.items) }
+    requires within { AreInside rows.old.items spans.old.items }
+    ensures within { IfOk result (λ _. AreInside rows.new.items spans.new.items) }
     ensures leads { IfOk result (λ _. leads_in rows.new.items spans.new.items
         ≡ leads_in rows.old.items spans.old.items ++ rows_from (rounds stage) changes.now ∷ []) }
 {
@@ -150,7 +150,7 @@ fn lay(
 // The rows of the lead with this number.
 fn lead_at<'a>(rows: &'a [Row], spans: &[Span], step: u8) -> &'a [Row]
     requires step { step < length spans.now }
-    requires within { AreWithin rows.now spans.now }
+    requires within { AreInside rows.now spans.now }
     ensures { result.now ≡ get_or (leads_in rows.now spans.now) step [] }
 {
     let span = spans[usize::from(step)];
@@ -164,13 +164,23 @@ fn head_of_all(table: &LeadTable, steps: &[u8]) -> Row
     ensures row { IsRow result × (length result ≡ table.now.stage) }
 {
     joined_callings_multiply();
-    product_of_rows();
     rounds_is_neutral();
     let mut head = Row::rounds(table.stage());
     for step in steps {
-        head = head.times(&table.head_of(*step));
+        head = next_head(table, head, *step);
     }
     head
+}
+
+// The head after one more lead, which is rung from this row.
+fn next_head(table: &LeadTable, head: Row, step: u8) -> Row
+    requires step { step < length table.now.leads }
+    requires row { IsRow head × (length head ≡ table.now.stage) }
+    ensures is { (p : ProblemParts) → table.now ≡ lead_table p → result ≡ product head (head_of p (step ∷ [])) }
+    ensures row { IsRow result × (length result ≡ table.now.stage) }
+{
+    product_of_rows();
+    head.times(&table.head_of(step))
 }
 
 // The rows of some steps, rung one after another.

@@ -6,7 +6,6 @@ pub loop-step-preserved : goal.loop-step-preserved
 loop-step-preserved c =
     let laws : ProductLaws = record {
       rows = c.joined_callings_multiply.ensures.rows;
-      head = c.joined_callings_multiply.ensures.head;
       row = c.product_of_rows.ensures.row;
       long = c.product_of_rows.ensures.same_length;
     } in
