@@ -22,7 +22,8 @@ key_at : (rows : List (List ℕ)) (i d : ℕ) → i < length rows → get_or (ma
 key_at rows i d within = get_or-map key_of rows i [] d within
 
 -- rows differ where their keys do
-keys_differ : KeysTell → (rows : List (List ℕ)) → HaveOneStage rows → AllDiffer rows → IsDistinct nat_eq (map key_of rows)
+keys_differ : KeysTell → (rows : List (List ℕ)) → HaveOneStage rows → AllDiffer rows
+    → IsDistinct nat_eq (map key_of rows)
 keys_differ tell rows one differ = IsDistinct-from_apart nat_eq (map key_of rows) (λ i j d before within.
     let long : length (map key_of rows) ≡ length rows = length-map rows key_of in
     let j_in : j < length rows = subst (λ n. j < n) long within in
@@ -43,11 +44,13 @@ rows_apart rows distinct = λ i j before within same.
 -- numbers that ascend are distinct
 ascending_distinct : (xs : List ℕ) → IsStrictlyIncreasing xs → IsDistinct nat_eq xs
 ascending_distinct xs up = IsDistinct-from_apart nat_eq xs (λ i j d before within.
-    let less : get_or xs i d < get_or xs j d = below_from_sorted xs i j d (sorted_from_strictly_increasing xs up) before within in
+    let less : get_or xs i d < get_or xs j d =
+    below_from_sorted xs i j d (sorted_from_strictly_increasing xs up) before within in
     ne_eqb (get_or xs i d) (get_or xs j d) (λ same. absurd (omega (arith, less, same))))
 
 -- the keys in order ascend exactly where the rows differ
-pub sorted_keys_tell : KeysTell → (rows : List (List ℕ)) (keys sorted : List ℕ) → HaveOneStage rows → keys ≡ map key_of rows
+pub sorted_keys_tell : KeysTell → (rows : List (List ℕ)) (keys sorted : List ℕ) → HaveOneStage rows
+    → keys ≡ map key_of rows
     → IsPermutation keys sorted → IsSorted nat_cmp sorted → IsStrictlyIncreasing sorted ↔ AllDiffer rows
 sorted_keys_tell tell rows keys sorted one is moved order =
     let moved_keys : IsPermutation (map key_of rows) sorted = subst (λ list. IsPermutation list sorted) is moved in

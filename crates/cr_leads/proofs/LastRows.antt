@@ -9,7 +9,8 @@ use Rattle.std.proofs.lemmas.List.Elements.{All-head, All-tail}
 use Rattle.cr_model.specs.Callings.{last_of}
 
 -- by its place
-pub last_at : (rows : List (List ℕ)) (row d : List ℕ) → 1 ≤ length rows → get_or rows (length rows - 1) d ≡ last_of row rows
+pub last_at : (rows : List (List ℕ)) (row d : List ℕ) → 1 ≤ length rows
+    → get_or rows (length rows - 1) d ≡ last_of row rows
 last_at [] row d some = absurd (omega arith)
 last_at (next ∷ []) row d some = refl
 last_at (next ∷ second ∷ rows) row d some =
@@ -22,7 +23,8 @@ last_holds P row [] here all = here
 last_holds P row (next ∷ rows) here all = last_holds P next rows (All-head P next rows all) (All-tail P next rows all)
 
 -- of some rows also where it does not hold of the one before them
-pub last_of_some : (P : List ℕ → Type 0) (row : List ℕ) (rows : List (List ℕ)) → 1 ≤ length rows → All P rows → P (last_of row rows)
+pub last_of_some : (P : List ℕ → Type 0) (row : List ℕ) (rows : List (List ℕ)) → 1 ≤ length rows → All P rows
+    → P (last_of row rows)
 last_of_some P row [] some all = absurd (omega arith)
 last_of_some P row (next ∷ rows) some all = last_holds P next rows (All-head P next rows all) (All-tail P next rows all)
 

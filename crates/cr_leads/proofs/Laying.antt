@@ -12,7 +12,8 @@ use Rattle.cr_leads.specs.Spans.{rows_at, leads_in, IsInside, AreInside}
 span_kept : (rows more : List (List ℕ)) (i j : ℕ) → j ≤ length rows → between i j (rows ++ more) ≡ between i j rows
 span_kept rows more i j h = between_is (rows ++ more) i j ∙ ap (drop i) (take-append-le j rows more h) ∙ sym (between_is rows i j)
 
-spans_kept : (rows more : List (List ℕ)) (spans : List Span) → AreInside rows spans → leads_in (rows ++ more) spans ≡ leads_in rows spans
+spans_kept : (rows more : List (List ℕ)) (spans : List Span) → AreInside rows spans
+    → leads_in (rows ++ more) spans ≡ leads_in rows spans
 spans_kept rows more [] within = refl
 spans_kept rows more (span ∷ spans) within =
     ap₂ (λ lead leads. lead ∷ leads)
@@ -20,7 +21,8 @@ spans_kept rows more (span ∷ spans) within =
     (spans_kept rows more spans (All-tail (IsInside (length rows)) span spans within))
 
 -- the rows appended last stand at the span from where they begin
-last_span : (rows more : List (List ℕ)) (i j : ℕ) → i ≡ length rows → length (rows ++ more) ≤ j → between i j (rows ++ more) ≡ more
+last_span : (rows more : List (List ℕ)) (i j : ℕ) → i ≡ length rows → length (rows ++ more) ≤ j
+    → between i j (rows ++ more) ≡ more
 last_span rows more i j at end =
     ap (λ k. between k j (rows ++ more)) at
     ∙ between_to_end (rows ++ more) (length rows) j end

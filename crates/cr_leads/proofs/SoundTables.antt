@@ -35,7 +35,8 @@ pub sound_lead : ((change : Places) (row : List ℕ) → IsRow row → IsRow (af
     → ((n : ℕ) → IsRow (rounds n)) → ((n : ℕ) → length (rounds n) ≡ n)
     → (p : ProblemParts) (step : ℕ) → AreOfStage p.stage (changes_of p step) → IsLead p.stage (rows_of p (step ∷ []))
 sound_lead makes keeps is_row long p step right =
-    let number : length (rows_of p (step ∷ [])) ≡ length (changes_of p step) = ap length (rows_of_one p step) ∙ length_rung (rounds p.stage) (changes_of p step) in
+    let number : length (rows_of p (step ∷ [])) ≡ length (changes_of p step) =
+    ap length (rows_of_one p step) ∙ length_rung (rounds p.stage) (changes_of p step) in
     let some : 1 ≤ length (changes_of p step) = right.some in
     let few : length (changes_of p step) ≤ most_lead_changes = right.few in
     record {
@@ -49,12 +50,14 @@ pub sound_table : ((change : Places) (row : List ℕ) → IsRow row → IsRow (a
     → ((n : ℕ) → IsRow (rounds n)) → ((n : ℕ) → length (rounds n) ≡ n)
     → (p : ProblemParts) → IsSound p → IsTable (lead_table p)
 sound_table makes keeps is_row long p sound =
-    let number : length (lead_table p).leads ≡ length p.leads = length-map-range_with_len (λ step. rows_of p (step ∷ [])) 0 (length p.leads) in
+    let number : length (lead_table p).leads ≡ length p.leads =
+    length-map-range_with_len (λ step. rows_of p (step ∷ [])) 0 (length p.leads) in
     let few : length p.leads ≤ most_steps = sound_steps p sound in
     let lead : (k d : ℕ) → k < length (range_with_len 0 (length p.leads)) → IsLead p.stage (rows_of p (get_or (range_with_len 0 (length p.leads)) k d ∷ [])) =
     λ k d within.
     let below : k < length p.leads = subst (λ n. k < n) (length-range_with_len 0 (length p.leads)) within in
-    let at : get_or (range_with_len 0 (length p.leads)) k d ≡ k = get_or-range_with_len 0 (length p.leads) k d below ∙ omega arith in
+    let at : get_or (range_with_len 0 (length p.leads)) k d ≡ k =
+    get_or-range_with_len 0 (length p.leads) k d below ∙ omega arith in
     subst (λ step. IsLead p.stage (rows_of p (step ∷ []))) (sym at)
     (sound_lead makes keeps is_row long p k ((sound_leads p sound).each k below).changes) in
     record {
@@ -77,7 +80,8 @@ table_more p index stage changes before now stage_is changes_is before_is is =
     ∙ sym (map-range_with_len_more (λ step. rows_of p (step ∷ [])) 0 index index (omega arith))
 
 -- and with all
-pub whole_table : (p : ProblemParts) (index stage : ℕ) (leads : List (List (List ℕ))) → stage ≡ p.stage → index ≡ length p.leads
+pub whole_table : (p : ProblemParts) (index stage : ℕ) (leads : List (List (List ℕ))) → stage ≡ p.stage
+    → index ≡ length p.leads
     → leads ≡ map (λ step. rows_of p (step ∷ [])) (range_with_len 0 index) → table_from stage leads ≡ lead_table p
 whole_table p index stage leads stage_is all is =
     ap₂ table_from stage_is (is ∙ ap (λ n. map (λ step. rows_of p (step ∷ [])) (range_with_len 0 n)) all)

@@ -36,16 +36,19 @@ pub record AreRung (table : TableParts) (steps : List ℕ) (index : ℕ) (head :
   pub row : IsRowOf table.stage head
 
 -- a product of rows of a stage
-product_row : ProductLaws → (stage : ℕ) (head row : List ℕ) → IsRowOf stage head → IsRowOf stage row → IsRowOf stage (product head row)
+product_row : ProductLaws → (stage : ℕ) (head row : List ℕ) → IsRowOf stage head → IsRowOf stage row
+    → IsRowOf stage (product head row)
 product_row laws stage head row h r = (laws.row head row h.0 r.0 (h.1 ∙ sym r.1), laws.long head row ∙ r.1)
 
-products_are_rows : ProductLaws → (stage : ℕ) (head : List ℕ) (lead : List (List ℕ)) → IsRowOf stage head → AreRows stage lead
+products_are_rows : ProductLaws → (stage : ℕ) (head : List ℕ) (lead : List (List ℕ)) → IsRowOf stage head
+    → AreRows stage lead
     → AreRows stage (map (product head) lead)
 products_are_rows laws stage head lead h all =
     All-map (IsRowOf stage) (product head) lead (All-weaker (IsRowOf stage) (λ row. IsRowOf stage (product head row)) (λ row r. product_row laws stage head row h r) lead all)
 
 -- one more step
-taken : (steps : List ℕ) (index step : ℕ) → index < length steps → step ≡ get_or steps index 0 → take (index + 1) steps ≡ take index steps ++ step ∷ []
+taken : (steps : List ℕ) (index step : ℕ) → index < length steps → step ≡ get_or steps index 0
+    → take (index + 1) steps ≡ take index steps ++ step ∷ []
 taken steps index step within at = take_more steps index 0 within ∙ ap (λ s. take index steps ++ s ∷ []) (sym at)
 
 pub head_more : Heads → (table : TableParts) (steps : List ℕ) (index step : ℕ) (head next : List ℕ)
@@ -61,7 +64,8 @@ head_more heads table steps index step head next before within at is row = recor
   row = row;
 }
 
-pub rows_more : ProductLaws → (table : TableParts) (steps : List ℕ) (index step : ℕ) (head next : List ℕ) (rows lead now : List (List ℕ))
+pub rows_more : ProductLaws
+    → (table : TableParts) (steps : List ℕ) (index step : ℕ) (head next : List ℕ) (rows lead now : List (List ℕ))
     → AreRung table steps index head rows → index < length steps → step ≡ get_or steps index 0
     → ((p : ProblemParts) → table ≡ lead_table p → lead ≡ rows_of p (step ∷ [])) → AreRows table.stage lead
     → now ≡ rows ++ map (product head) lead → next ≡ last_of head (map (product head) lead)

@@ -21,11 +21,14 @@ steps_have_rows : (p : ProblemParts) (calling : List ℕ) → HaveChanges p call
 steps_have_rows p [] all some = absurd (some refl)
 steps_have_rows p (step ∷ steps) all some =
     let first : 1 ≤ lead_length p step = All-head (λ s. 1 ≤ lead_length p s) step steps all in
-    let long : length (changes_of_all p (step ∷ steps)) ≡ lead_length p step + length (changes_of_all p steps) = length-append (changes_of p step) (changes_of_all p steps) in
-    let rung : length (rows_of p (step ∷ steps)) ≡ length (changes_of_all p (step ∷ steps)) = length_rung (rounds p.stage) (changes_of_all p (step ∷ steps)) in
+    let long : length (changes_of_all p (step ∷ steps)) ≡ lead_length p step + length (changes_of_all p steps) =
+    length-append (changes_of p step) (changes_of_all p steps) in
+    let rung : length (rows_of p (step ∷ steps)) ≡ length (changes_of_all p (step ∷ steps)) =
+    length_rung (rounds p.stage) (changes_of_all p (step ∷ steps)) in
     some_rows (rows_of p (step ∷ steps)) (omega (arith, first, long, rung))
 
-true_touch : (p : ProblemParts) (calling : List ℕ) → HaveChanges p calling → TrueTouch p calling ↔ (ComesHome p calling × AllDiffer (rows_of p calling))
+true_touch : (p : ProblemParts) (calling : List ℕ) → HaveChanges p calling
+    → TrueTouch p calling ↔ (ComesHome p calling × AllDiffer (rows_of p calling))
 true_touch p calling all = (
   λ touch. (record { some = steps_have_rows p calling all touch.some; last = touch.home }, touch.differ),
   λ told. record {
@@ -36,11 +39,13 @@ true_touch p calling all = (
 )
 
 -- the steps of a problem have changes
-pub sound_touch : (p : ProblemParts) (calling : List ℕ) → IsSound p → HasSteps p calling → TrueTouch p calling ↔ (ComesHome p calling × AllDiffer (rows_of p calling))
+pub sound_touch : (p : ProblemParts) (calling : List ℕ) → IsSound p → HasSteps p calling
+    → TrueTouch p calling ↔ (ComesHome p calling × AllDiffer (rows_of p calling))
 sound_touch p calling sound known = true_touch p calling (λ k d within. ((sound_leads p sound).each (get_or calling k d) (known k d within)).changes.some)
 
 -- and so do those of a table
-table_changes : (table : TableParts) (p : ProblemParts) (calling : List ℕ) → IsTable table → table ≡ lead_table p → HasLeads table calling → HaveChanges p calling
+table_changes : (table : TableParts) (p : ProblemParts) (calling : List ℕ) → IsTable table
+    → table ≡ lead_table p → HasLeads table calling → HaveChanges p calling
 table_changes table p calling right is known = λ k d within.
     let step = get_or calling k d in
     let some : 1 ≤ length (lead_rows table step) = (right.leads step [] (known k d within)).some in
@@ -49,7 +54,8 @@ table_changes table p calling right is known = λ k d within.
     omega (arith, some, long)
 
 -- what is told of rows that are the calling's
-pub told : (table : TableParts) (p : ProblemParts) (calling : List ℕ) (rung : Rung) → IsTable table → table ≡ lead_table p → HasLeads table calling
+pub told : (table : TableParts) (p : ProblemParts) (calling : List ℕ) (rung : Rung) → IsTable table
+    → table ≡ lead_table p → HasLeads table calling
     → rung.rows.items ≡ rows_of p calling
     → ((rung.home ≡ true) ↔ ((rung.rows.items ≢ []) × (last_of (rounds table.stage) rung.rows.items ≡ rounds table.stage)))
     → ((rung.distinct ≡ true) ↔ AllDiffer rung.rows.items)
@@ -62,7 +68,8 @@ told table p calling rung right table_is known is home distinct =
       },
       λ h. home.1 (λ none. h.some (sym is ∙ none), rw (is, table_is) h.last),
     ) in
-    let differ : (rung.distinct ≡ true) ↔ AllDiffer (rows_of p calling) = subst (λ rows. (rung.distinct ≡ true) ↔ AllDiffer rows) is distinct in
+    let differ : (rung.distinct ≡ true) ↔ AllDiffer (rows_of p calling) =
+    subst (λ rows. (rung.distinct ≡ true) ↔ AllDiffer rows) is distinct in
     let touch = true_touch p calling (table_changes table p calling right table_is known) in
     record {
       rows = is;

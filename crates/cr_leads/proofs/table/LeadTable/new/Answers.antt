@@ -14,10 +14,14 @@ pub lay-requires-clause-staged : goal.lay-requires-clause-staged
 lay-requires-clause-staged c =
     let p = c.args.problem.now in
     let index = c.loop-lead.lead-index in
-    let within : index < length p.leads = subst (λ leads. index < length leads) c.leads-leads.ensures.is (omega arith) in
-    let at : c.lead-item.result ≡ get_or p.leads index c.lead-item.result = c.lead-item.is ∙ ap (λ leads. get_or leads index c.lead-item.result) c.leads-leads.ensures.is in
-    let changes : c.deref.result.now ≡ changes_of p index = c.deref.ensures.value ∙ ap (λ lead. lead.changes) c.lead.view_is ∙ changes_at_is p.leads index c.lead-item.result within at in
-    let right : AreOfStage p.stage (changes_of p index) = ((sound_leads p c.stage-stage.ensures.sound).each index within).changes in
+    let within : index < length p.leads =
+    subst (λ leads. index < length leads) c.leads-leads.ensures.is (omega arith) in
+    let at : c.lead-item.result ≡ get_or p.leads index c.lead-item.result =
+    c.lead-item.is ∙ ap (λ leads. get_or leads index c.lead-item.result) c.leads-leads.ensures.is in
+    let changes : c.deref.result.now ≡ changes_of p index =
+    c.deref.ensures.value ∙ ap (λ lead. lead.changes) c.lead.view_is ∙ changes_at_is p.leads index c.lead-item.result within at in
+    let right : AreOfStage p.stage (changes_of p index) =
+    ((sound_leads p c.stage-stage.ensures.sound).each index within).changes in
     subst (λ list. All (λ (change : Places). change.stage ≡ c.stage-stage.result) list) (sym changes)
     (All-weaker (λ (change : Places). (change.stage ≡ p.stage) × IsChange change) (λ (change : Places). change.stage ≡ c.stage-stage.result)
     (λ change h. h.0 ∙ sym c.stage-stage.ensures.is) (changes_of p index) right.each)
@@ -26,9 +30,12 @@ pub loop-lead-preserved : goal.loop-lead-preserved
 loop-lead-preserved c =
     let p = c.args.problem.now in
     let index = c.loop-lead.lead-index in
-    let within : index < length p.leads = subst (λ leads. index < length leads) c.leads-leads.ensures.is (omega arith) in
-    let at : c.lead-item.result ≡ get_or p.leads index c.lead-item.result = c.lead-item.is ∙ ap (λ leads. get_or leads index c.lead-item.result) c.leads-leads.ensures.is in
-    let changes : c.deref.result.now ≡ changes_of p index = c.deref.ensures.value ∙ ap (λ lead. lead.changes) c.lead.view_is ∙ changes_at_is p.leads index c.lead-item.result within at in
+    let within : index < length p.leads =
+    subst (λ leads. index < length leads) c.leads-leads.ensures.is (omega arith) in
+    let at : c.lead-item.result ≡ get_or p.leads index c.lead-item.result =
+    c.lead-item.is ∙ ap (λ leads. get_or leads index c.lead-item.result) c.leads-leads.ensures.is in
+    let changes : c.deref.result.now ≡ changes_of p index =
+    c.deref.ensures.value ∙ ap (λ lead. lead.changes) c.lead.view_is ∙ changes_at_is p.leads index c.lead-item.result within at in
     record {
       within = c.in_ok-lay.ensures.within;
       leads = table_more p index c.stage-stage.result c.deref.result.now _ _ c.stage-stage.ensures.is changes c.loop-lead.invariant.leads c.in_ok-lay.ensures.leads;
