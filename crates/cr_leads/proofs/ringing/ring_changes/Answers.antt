@@ -8,9 +8,13 @@ loop-change-preserved c =
     let change = c.change-item.result in
     let row = c.loop-change.row in
     let index = c.loop-change.change-index in
-    let next : drop index c.args.changes.now ≡ change ∷ drop (index + 1) c.args.changes.now =
+    let later = drop (index + 1) c.args.changes.now in
+    let next : drop index c.args.changes.now ≡ change ∷ later =
     rw add-one (drop-cons c.args.changes.now index change (omega arith) ∙ ap (λ first. first ∷ drop (suc index) c.args.changes.now) (sym c.change-item.is)) in
     record {
       long = c.then-row.ensures.same_stage ∙ c.loop-change.invariant.long;
-      rows = rw (c.in_ok-push.ensures.items, c.then-row.ensures.is) (append_assoc c.loop-change.rows.items (after change row ∷ []) (rows_from (after change row) (drop (index + 1) c.args.changes.now)) ∙ sym (ap (λ changes. c.loop-change.rows.items ++ rows_from row changes) next) ∙ c.loop-change.invariant.rows);
+      rows = rw (c.in_ok-push.ensures.items, c.then-row.ensures.is) (
+          append_assoc c.loop-change.rows.items (after change row ∷ []) (rows_from (after change row) later)
+          ∙ sym (ap (λ changes. c.loop-change.rows.items ++ rows_from row changes) next)
+          ∙ c.loop-change.invariant.rows);
     }
