@@ -52,7 +52,7 @@ module _ (p : ProblemParts) (found nodes : List (List ℕ)) where
         let turned : j ≢ i - length found = omega arith in
         ap (λ item. overlaps item (of_node (get_or nodes j []))) (node_at (i - length found) i (omega arith) inside)
         ∙ or_from (is_prefix (get_or nodes (i - length found) []) (get_or nodes j [])) (is_prefix (get_or nodes j []) (get_or nodes (i - length found) []))
-          (independent.nodes_apart (i - length found) j inside within other) (independent.nodes_apart j (i - length found) within inside turned)
+        (independent.nodes_apart (i - length found) j inside within other) (independent.nodes_apart j (i - length found) within inside turned)
   ]
 
   items_apart : Independent p found nodes → ApartBelow all (length all)

@@ -24,9 +24,11 @@ next all item number least tells = elim (cases_Bool (overlaps (item_at all numbe
     joined None none meets = (Some number, starts all item number none meets)
     joined (Some best) first meets = elim (cases_Bool (is_lt (slice_cmp nat_cmp (item_at all number).word (item_at all best).word))) [
       | inl less ↦ (Some number, takes all item number best first meets ((less_test (slice_cmp nat_cmp (item_at all number).word (item_at all best).word)).0 less))
-      | inr not_less ↦
-          (Some best, stays all item number best first (λ less.
-            true≢false (sym ((less_test (slice_cmp nat_cmp (item_at all number).word (item_at all best).word)).1 less) ∙ not_less)))
+      | inr not_less ↦ (
+        Some best,
+        stays all item number best first (λ less.
+            true≢false (sym ((less_test (slice_cmp nat_cmp (item_at all number).word (item_at all best).word)).1 less) ∙ not_less)),
+      )
     ]
 
 least_of : (all : List Item) (item : Item) (number : ℕ) → Least all item number

@@ -40,8 +40,7 @@ sorted_apart words sorted number within moved order =
     let inside : number ≤ length (items_of words) = omega (arith, length-map words item_of) in
     let same : IsPermutation front (items_of sorted) = IsPermutation-map item_of (take number words) sorted moved in
     let none = apart_where_none_begins (items_of sorted) (items_sorted sorted order) in
-    let taken = taken_apart (items_of words) number inside (length-take-le number (items_of words) inside) in
-    (
+    let taken = taken_apart (items_of words) number inside (length-take-le number (items_of words) inside) in (
       λ h. taken.0 (subst (λ (items : List Item). ApartBelow items (length items)) is
           (apart_moved (items_of sorted) front (IsPermutation-sym front (items_of sorted) same) (none.0 h))),
       λ h. none.1 (apart_moved front (items_of sorted) same (subst (λ (items : List Item). ApartBelow items (length items)) (sym is) (taken.1 h))),
