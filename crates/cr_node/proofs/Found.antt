@@ -1,10 +1,9 @@
 -- Where some items overlap, there is a first pair.
-use Rattle.std.proofs.Common.{◌≡◌, ℕ, zero, suc, ◌+◌, ◌<◌, ◌≤◌, ◌⊎◌, Bool, true, false, List, length, Option, Some, None, inl, inr, refl, sym, ap, ◌∙◌, subst, arith}
+use Rattle.std.proofs.Common.{◌≡◌, ℕ, zero, suc, ◌+◌, ◌<◌, ◌⊎◌, true, List, length, Option, Some, None, inl, inr, sym, ◌∙◌, subst, arith}
 use Rattle.std.proofs.lemmas.Bool.{true≢false}
 use Rattle.std.specs.Ordering.{nat_cmp, is_lt}
 use Rattle.std.specs.Cmp.Lexicographic.{slice_cmp}
-use Rattle.std.proofs.lemmas.Bool.{cases_Bool, false≢true}
-use Rattle.cr_model.specs.Touches.{IsLess}
+use Rattle.std.proofs.lemmas.Bool.{cases_Bool}
 use Rattle.cr_node.specs.Overlaps.{Item, item_at, overlaps, ApartBelow, IsLeastBelow, IsFirstOverlap, TellsLeast}
 use Rattle.cr_node.proofs.Order.{less_test}
 use Rattle.cr_node.proofs.Least.{keeps, starts, takes, stays, one_more_apart}

@@ -1,11 +1,11 @@
 -- The first words, sorted.
-use Rattle.std.proofs.Common.{◌≡◌, ℕ, ◌+◌, ◌<◌, ◌≤◌, ◌↔◌, false, List, [], ◌∷◌, length, get_or, map, take, refl, sym, ap, ap₂, ◌∙◌, subst, arith}
+use Rattle.std.proofs.Common.{◌≡◌, ℕ, ◌+◌, ◌<◌, ◌≤◌, ◌↔◌, List, [], ◌∷◌, length, take, sym, ap₂, ◌∙◌, subst, arith}
 use Rattle.std.specs.List.Sorted.{IsPermutation, IsSortedBy}
 use Rattle.std.specs.Ordering.{is_lt}
 use Rattle.std.proofs.lemmas.List.{get_or-map, get_or-take, length-map, take-map, length-take-le}
-use Rattle.std.proofs.lemmas.List.Sorted.{IsPermutation-map, IsPermutation-sym, length_permutation}
+use Rattle.std.proofs.lemmas.List.Sorted.{IsPermutation-map, IsPermutation-sym}
 use Rattle.cr_node.specs.declared.words.Word.{Word}
-use Rattle.cr_node.specs.Overlaps.{Item, of_node, item_at, overlaps, ApartBelow, NoneBeginsNext, item_of, items_of}
+use Rattle.cr_node.specs.Overlaps.{Item, of_node, overlaps, ApartBelow, NoneBeginsNext, item_of, items_of}
 use Rattle.cr_node.proofs.Sorted.{item_cmp, apart_where_none_begins, apart_moved}
 
 -- a sorted list of words is one of items

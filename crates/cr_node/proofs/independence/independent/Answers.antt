@@ -1,4 +1,4 @@
-use Rattle.std.proofs.Common.{◌≡◌, ℕ, ◌<◌, List, length, None, sym, ap, ◌∙◌, subst, arith}
+use Rattle.std.proofs.Common.{◌≡◌, ℕ, List, length, None, sym, ap, ◌∙◌, subst, arith}
 use Rattle.std.proofs.lemmas.List.{length-map}
 use Rattle.cr_node.specs.declared.words.Word.{Word}
 use Rattle.cr_node.specs.Overlaps.{Item, items, item_at, item_of, items_of, ApartBelow, IsLeastBelow, IsFirstOverlap, TellsLeast}

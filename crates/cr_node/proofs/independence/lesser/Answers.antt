@@ -1,9 +1,9 @@
-use Rattle.std.proofs.Common.{◌≡◌, ℕ, ◌<◌, true, false, length, Option, Some, sym, ap₂, ◌∙◌, subst, arith}
+use Rattle.std.proofs.Common.{ℕ, ◌<◌, length, Option, sym, ap₂, ◌∙◌, subst, arith}
 use Rattle.std.specs.Cmp.Lexicographic.{slice_cmp}
 use Rattle.std.specs.Ordering.{nat_cmp}
 use Rattle.std.proofs.lemmas.Bool.{false≢true}
 use Rattle.cr_node.specs.Overlaps.{item_at, items_of, overlaps, IsLeastBelow, TellsLeast}
-use Rattle.cr_node.proofs.Least.{item_read, keeps, starts, takes, stays}
+use Rattle.cr_node.proofs.Least.{item_read, keeps, takes, stays}
 use Rattle.cr_node.proofs.independence.lesser.Goals as goal
 
 pub returns-then-not-overlaps : goal.returns-then-not-overlaps
