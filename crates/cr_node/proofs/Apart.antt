@@ -1,10 +1,10 @@
 -- Items that do not overlap, and independence.
-use Rattle.std.proofs.Common.{◌≡◌, ◌≢◌, ℕ, ◌+◌, ◌-◌, ◌<◌, ◌≤◌, ◌↔◌, true, false, List, [], ◌++◌, length, get_or, map, inl, inr, refl, sym, ap, ap₂, ◌∙◌, arith, length-append}
+use Rattle.std.proofs.Common.{◌≡◌, ◌≢◌, ℕ, ◌+◌, ◌-◌, ◌<◌, ◌↔◌, false, List, [], length, get_or, map, inl, inr, refl, sym, ap, ap₂, ◌∙◌, arith, length-append}
 use Rattle.std.proofs.lemmas.Bool.{cases_lt, or_parts, or_from}
 use Rattle.std.proofs.lemmas.List.{get_or_append_left, get_or-append_right, get_or-map, length-map}
 use Rattle.cr_model.specs.Problems.{ProblemParts}
 use Rattle.cr_model.specs.Nodes.{is_prefix, is_above, Independent}
-use Rattle.cr_node.specs.Overlaps.{Item, of_found, of_node, items, item_at, begins, overlaps, ApartBelow}
+use Rattle.cr_node.specs.Overlaps.{Item, of_found, of_node, items, item_at, overlaps, ApartBelow}
 
 module _ (p : ProblemParts) (found nodes : List (List ℕ)) where
   abbrev all : List Item
@@ -52,7 +52,7 @@ module _ (p : ProblemParts) (found nodes : List (List ℕ)) where
         let turned : j ≢ i - length found = omega arith in
         ap (λ item. overlaps item (of_node (get_or nodes j []))) (node_at (i - length found) i (omega arith) inside)
         ∙ or_from (is_prefix (get_or nodes (i - length found) []) (get_or nodes j [])) (is_prefix (get_or nodes j []) (get_or nodes (i - length found) []))
-          (independent.nodes_apart (i - length found) j inside within other) (independent.nodes_apart j (i - length found) within inside turned)
+        (independent.nodes_apart (i - length found) j inside within other) (independent.nodes_apart j (i - length found) within inside turned)
   ]
 
   items_apart : Independent p found nodes → ApartBelow all (length all)

@@ -1,10 +1,9 @@
 -- Where some items overlap, there is a first pair.
-use Rattle.std.proofs.Common.{◌≡◌, ℕ, zero, suc, ◌+◌, ◌<◌, ◌≤◌, ◌⊎◌, Bool, true, false, List, length, Option, Some, None, inl, inr, refl, sym, ap, ◌∙◌, subst, arith}
+use Rattle.std.proofs.Common.{◌≡◌, ℕ, zero, suc, ◌+◌, ◌<◌, ◌⊎◌, true, List, length, Option, Some, None, inl, inr, sym, ◌∙◌, subst, arith}
 use Rattle.std.proofs.lemmas.Bool.{true≢false}
 use Rattle.std.specs.Ordering.{nat_cmp, is_lt}
 use Rattle.std.specs.Cmp.Lexicographic.{slice_cmp}
-use Rattle.std.proofs.lemmas.Bool.{cases_Bool, false≢true}
-use Rattle.cr_model.specs.Touches.{IsLess}
+use Rattle.std.proofs.lemmas.Bool.{cases_Bool}
 use Rattle.cr_node.specs.Overlaps.{Item, item_at, overlaps, ApartBelow, IsLeastBelow, IsFirstOverlap, TellsLeast}
 use Rattle.cr_node.proofs.Order.{less_test}
 use Rattle.cr_node.proofs.Least.{keeps, starts, takes, stays, one_more_apart}
@@ -24,9 +23,11 @@ next all item number least tells = elim (cases_Bool (overlaps (item_at all numbe
     joined None none meets = (Some number, starts all item number none meets)
     joined (Some best) first meets = elim (cases_Bool (is_lt (slice_cmp nat_cmp (item_at all number).word (item_at all best).word))) [
       | inl less ↦ (Some number, takes all item number best first meets ((less_test (slice_cmp nat_cmp (item_at all number).word (item_at all best).word)).0 less))
-      | inr not_less ↦
-          (Some best, stays all item number best first (λ less.
-            true≢false (sym ((less_test (slice_cmp nat_cmp (item_at all number).word (item_at all best).word)).1 less) ∙ not_less)))
+      | inr not_less ↦ (
+        Some best,
+        stays all item number best first (λ less.
+            true≢false (sym ((less_test (slice_cmp nat_cmp (item_at all number).word (item_at all best).word)).1 less) ∙ not_less)),
+      )
     ]
 
 least_of : (all : List Item) (item : Item) (number : ℕ) → Least all item number

@@ -1,12 +1,11 @@
 -- The pair that is named where items overlap.
-use Rattle.std.proofs.Common.{◌≡◌, ℕ, ◌+◌, ◌<◌, ◌≤◌, true, false, List, length, inl, inr, refl, sym, ap, ◌∙◌, subst, arith}
+use Rattle.std.proofs.Common.{◌≡◌, ℕ, ◌<◌, List, length, inl, inr, sym, ap, ◌∙◌, subst, arith}
 use Rattle.std.specs.Cmp.Lexicographic.{slice_cmp}
 use Rattle.std.specs.Ordering.{nat_cmp, is_lt, ordering_reverse}
-use Rattle.std.specs.declared.cmp.Ordering.TheVariants.{Less, Equal, Greater}
 use Rattle.std.proofs.lemmas.Bool.{true≢false, cases_order}
 use Rattle.std.proofs.lemmas.Cmp.{nat_list_cmp_total, tied_itself}
 use Rattle.cr_model.specs.Touches.{IsLess}
-use Rattle.cr_node.specs.Overlaps.{Item, item_at, overlaps, ApartBelow, ComesFirst, IsLeastBelow, IsFirstOverlap}
+use Rattle.cr_node.specs.Overlaps.{Item, item_at, ApartBelow, ComesFirst, IsLeastBelow, IsFirstOverlap}
 
 -- of two words not both are less
 not_both_less : (one two : List ℕ) → IsLess one two → IsLess two one → ⊥

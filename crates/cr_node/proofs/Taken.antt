@@ -1,11 +1,11 @@
 -- The first words, sorted.
-use Rattle.std.proofs.Common.{◌≡◌, ℕ, ◌+◌, ◌<◌, ◌≤◌, ◌↔◌, false, List, [], ◌∷◌, length, get_or, map, take, refl, sym, ap, ap₂, ◌∙◌, subst, arith}
+use Rattle.std.proofs.Common.{◌≡◌, ℕ, ◌+◌, ◌<◌, ◌≤◌, ◌↔◌, List, [], ◌∷◌, length, take, sym, ap₂, ◌∙◌, subst, arith}
 use Rattle.std.specs.List.Sorted.{IsPermutation, IsSortedBy}
 use Rattle.std.specs.Ordering.{is_lt}
 use Rattle.std.proofs.lemmas.List.{get_or-map, get_or-take, length-map, take-map, length-take-le}
-use Rattle.std.proofs.lemmas.List.Sorted.{IsPermutation-map, IsPermutation-sym, length_permutation}
+use Rattle.std.proofs.lemmas.List.Sorted.{IsPermutation-map, IsPermutation-sym}
 use Rattle.cr_node.specs.declared.words.Word.{Word}
-use Rattle.cr_node.specs.Overlaps.{Item, of_node, item_at, overlaps, ApartBelow, NoneBeginsNext, item_of, items_of}
+use Rattle.cr_node.specs.Overlaps.{Item, of_node, overlaps, ApartBelow, NoneBeginsNext, item_of, items_of}
 use Rattle.cr_node.proofs.Sorted.{item_cmp, apart_where_none_begins, apart_moved}
 
 -- a sorted list of words is one of items
@@ -40,8 +40,7 @@ sorted_apart words sorted number within moved order =
     let inside : number ≤ length (items_of words) = omega (arith, length-map words item_of) in
     let same : IsPermutation front (items_of sorted) = IsPermutation-map item_of (take number words) sorted moved in
     let none = apart_where_none_begins (items_of sorted) (items_sorted sorted order) in
-    let taken = taken_apart (items_of words) number inside (length-take-le number (items_of words) inside) in
-    (
+    let taken = taken_apart (items_of words) number inside (length-take-le number (items_of words) inside) in (
       λ h. taken.0 (subst (λ (items : List Item). ApartBelow items (length items)) is
           (apart_moved (items_of sorted) front (IsPermutation-sym front (items_of sorted) same) (none.0 h))),
       λ h. none.1 (apart_moved front (items_of sorted) same (subst (λ (items : List Item). ApartBelow items (length items)) (sym is) (taken.1 h))),

@@ -31,9 +31,9 @@ module _ (p : ProblemParts) (calling : List ℕ) where
       → (i : ℕ) → i < length nodes → is_above p (get_or nodes i []) calling ≡ false
   others_below node nodes apart above i inside = false_from_ne_true (is_above p (get_or nodes i []) calling) (λ too.
       elim (comparable node (get_or nodes i []) (part_of p calling) above too) [
-      | inl h ↦ true≢false (sym h ∙ apart 0 (suc i) (omega arith) (omega arith) (omega arith))
-      | inr h ↦ true≢false (sym h ∙ apart (suc i) 0 (omega arith) (omega arith) (omega arith))
-    ])
+        | inl h ↦ true≢false (sym h ∙ apart 0 (suc i) (omega arith) (omega arith) (omega arith))
+        | inr h ↦ true≢false (sym h ∙ apart (suc i) 0 (omega arith) (omega arith) (omega arith))
+      ])
 
   -- of independent nodes at most one is above a touch
   pub at_most_one_above : (nodes : List (List ℕ)) → NodesApart nodes → nodes_above p nodes calling ≤ 1

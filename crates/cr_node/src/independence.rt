@@ -4,7 +4,7 @@ ghost use Rattle.std.specs.Prelude.{◌≡◌, ℕ, ◌+◌, ◌<◌, ◌≤◌,
 ghost use Rattle.cr_node.specs.Overlaps.{item_at, items_of, ApartBelow, NoneBeginsNext, TellsLeast, TellsOverlap};
 
 use crate::node::Node;
-use crate::words::{words_of, Word};
+use crate::words::{Word, words_of};
 use cr_model::{Calling, Problem};
 use cr_row::NoMemory;
 use std::alloc::Global;

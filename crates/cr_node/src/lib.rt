@@ -11,7 +11,7 @@ mod words;
 pub use done::{Done, DoneParts};
 pub use explorer::Explorer;
 pub use independence::independent;
-pub use node::{is_prefix, less, Node};
+pub use node::{Node, is_prefix, less};
 
 #[cfg(test)]
 mod tests;

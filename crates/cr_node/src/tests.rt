@@ -111,21 +111,24 @@ fn overlaps_of_parts(rt: HostRuntime) -> Result<(), Fail> {
     let below = nodes(rt.alloc(), b"pbp/")?;
     assert_eq!(rt; independent(rt.alloc(), &problem, &found, &below)?, None);
     let above = nodes(rt.alloc(), b"b/pb/")?;
-    assert_eq!(rt; independent(rt.alloc(), &problem, &found, &above)?, Some((0, 2)));
+    assert_eq!(rt;
+        independent(rt.alloc(), &problem, &found, &above)?,
+        Some((0, 2))
+    );
     Ok(())
 }
 
 #[test]
 fn nodes_are_short(rt: HostRuntime) -> Result<(), Fail> {
     assert!(rt; Node::root(rt.alloc()).steps().is_empty());
-    match Node::new([1; 1025].to_vec(rt.alloc())?) {
-        Ok(_) => return Err(Fail::from("1,025 steps are taken")),
-        Err(list) => assert_eq!(rt; list.as_slice(), [1; 1025].as_slice()),
-    }
-    match Node::new([1; 1024].to_vec(rt.alloc())?) {
-        Ok(node) => assert_eq!(rt; node.copy(rt.alloc())?.steps(), [1; 1024].as_slice()),
-        Err(_) => return Err(Fail::from("1,024 steps are refused")),
-    }
+    let Err(list) = Node::new([1; 1025].to_vec(rt.alloc())?) else {
+        return Err(Fail::from("1,025 steps are taken"));
+    };
+    assert_eq!(rt; list.len(), 1025);
+    let Ok(node) = Node::new([1; 1024].to_vec(rt.alloc())?) else {
+        return Err(Fail::from("1,024 steps are refused"));
+    };
+    assert_eq!(rt; node.copy(rt.alloc())?.steps(), node.steps());
     Ok(())
 }
 
@@ -168,10 +171,16 @@ fn not_begun(alloc: Global, problem: Problem) -> Result<Done, Fail> {
 fn work_that_is_not_begun(rt: HostRuntime) -> Result<(), Fail> {
     let done = not_begun(rt.alloc(), problem(rt.alloc(), 1)?)?;
     assert_eq!(rt; done.problem().stage().number(), 4);
-    assert_eq!(rt; (done.job().len(), done.found().len(), done.rest().len()), (1, 0, 1));
+    assert_eq!(rt;
+        (done.job().len(), done.found().len(), done.rest().len()),
+        (1, 0, 1)
+    );
     assert_eq!(rt; done.used(), 0);
     let parts = done.into_parts();
-    assert_eq!(rt; (parts.job.len(), parts.found.len(), parts.rest.len()), (1, 0, 1));
+    assert_eq!(rt;
+        (parts.job.len(), parts.found.len(), parts.rest.len()),
+        (1, 0, 1)
+    );
     assert_eq!(rt; parts.used, 0);
     Ok(())
 }

@@ -12,8 +12,7 @@ returns c =
     let taken : c.in_ok-sorted.sorted.items ≡ take c.args.number words = c.in_ok-sorted.ensures.items_if_clones_equal (λ x y same. same) in
     let moved : IsPermutation (take c.args.number words) sorted = subst (λ (l : List Word). IsPermutation l sorted) taken c.sort_unstable.ensures.permutation in
     let apart = sorted_apart words sorted c.args.number c.requires moved c.sort_unstable.ensures.sorted in
-    let seen : c.deref.result.now ≡ sorted = c.deref.ensures.value in
-    (
+    let seen : c.deref.result.now ≡ sorted = c.deref.ensures.value in (
       λ h. apart.0 (subst (λ (l : List Word). NoneBeginsNext (items_of l)) seen (c.none_begins_next.ensures.0 h)),
       λ h. c.none_begins_next.ensures.1 (subst (λ (l : List Word). NoneBeginsNext (items_of l)) (sym seen) (apart.1 h)),
     )

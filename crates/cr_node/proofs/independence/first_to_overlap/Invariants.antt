@@ -1,4 +1,4 @@
-use Rattle.std.proofs.Common.{ℕ, ◌-◌, ◌<◌, ◌≤◌, length}
+use Rattle.std.proofs.Common.{◌-◌, ◌<◌, ◌≤◌, length}
 use Rattle.cr_node.specs.Overlaps.{items_of, ApartBelow}
 use Rattle.cr_node.proofs.independence.first_to_overlap.Given as goal
 

@@ -1,4 +1,4 @@
-use Rattle.std.proofs.Common.{◌≡◌, ℕ, ◌<◌, List, length, None, sym, ap, ◌∙◌, subst, arith}
+use Rattle.std.proofs.Common.{◌≡◌, ℕ, List, length, None, sym, ap, ◌∙◌, subst, arith}
 use Rattle.std.proofs.lemmas.List.{length-map}
 use Rattle.cr_node.specs.declared.words.Word.{Word}
 use Rattle.cr_node.specs.Overlaps.{Item, items, item_at, item_of, items_of, ApartBelow, IsLeastBelow, IsFirstOverlap, TellsLeast}
@@ -13,7 +13,7 @@ returns-then-branch c =
     let is : items_of words ≡ all = ap items_of c.deref.ensures.value ∙ c.in_ok-words.ensures in
     let number : c.len.result ≡ length (items_of words) = omega (arith, c.len.ensures, c.deref.ensures.len, length-map words item_of) in
     let apart : ApartBelow (items_of words) (length (items_of words)) =
-        subst (λ (n : ℕ). ApartBelow (items_of words) n) number (c.in_ok-are_apart.ensures.0 c.if-branch.true) in
+    subst (λ (n : ℕ). ApartBelow (items_of words) n) number (c.in_ok-are_apart.ensures.0 c.if-branch.true) in
     (independent_where_apart c.args.problem.now c.args.found.now c.args.nodes.now).1 (subst (λ (l : List Item). ApartBelow l (length l)) is apart)
 
 pub unreachable-requires : goal.unreachable-requires

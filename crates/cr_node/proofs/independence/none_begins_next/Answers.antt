@@ -1,4 +1,4 @@
-use Rattle.std.proofs.Common.{◌≡◌, ℕ, ◌+◌, ◌-◌, ◌<◌, ◌≤◌, false, length, inl, inr, refl, sym, ap, ap₂, ◌∙◌, arith}
+use Rattle.std.proofs.Common.{◌≡◌, ◌+◌, ◌-◌, ◌<◌, ◌≤◌, length, inl, inr, sym, ap, ap₂, ◌∙◌, arith}
 use Rattle.std.proofs.lemmas.Bool.{false≢true, cases_lt}
 use Rattle.std.proofs.lemmas.List.{length-map}
 use Rattle.cr_node.specs.Overlaps.{item_at, item_of, items_of, begins}
@@ -12,8 +12,7 @@ returns-then-begins c =
     let some : 1 ≤ here = c.loop-index.invariant.0 in
     let inside : here < length words = omega (arith, c.loop-index-test.true) in
     let next : (here - 1) + 1 ≡ here = omega arith in
-    let within : (here - 1) + 1 < length (items_of words) = omega (arith, length-map words item_of) in
-    (
+    let within : (here - 1) + 1 < length (items_of words) = omega (arith, length-map words item_of) in (
       λ h. absurd (false≢true h),
       λ none.
           sym (none (here - 1) within) ∙ ap (λ k. begins (item_at (items_of words) (here - 1)) (item_at (items_of words) k)) next
@@ -25,8 +24,7 @@ loop-index-preserved c =
     let words = c.args.words.now in
     let here = c.loop-index.index in
     let some : 1 ≤ here = c.loop-index.invariant.0 in
-    let inside : here < length words = omega (arith, c.loop-index-test.true) in
-    (
+    let inside : here < length words = omega (arith, c.loop-index-test.true) in (
       omega arith,
       λ k below.
           elim (cases_lt (k + 1) here) [
