@@ -111,3 +111,36 @@ faulty = record {
       ∷ [];
   query = asks 1 24 1;
 }
+
+-- Plain Bob Minor up to 72 changes: step 0 is a plain lead, x 16 x 16 x 16 x 16 x 16 x 12, step 1 ends with
+-- the call 14, and step 2 with the call 1234
+abbrev pub on_six : List ℕ → Places
+on_six made = record { stage = 6; made = made }
+
+abbrev pub minor_lead : ℕ → List ℕ → LeadParts
+minor_lead mark made = record {
+  step = record { method = 0; mark = mark };
+  changes = map on_six ([] ∷ (1 ∷ 6 ∷ []) ∷ [] ∷ (1 ∷ 6 ∷ []) ∷ [] ∷ (1 ∷ 6 ∷ []) ∷ [] ∷ (1 ∷ 6 ∷ []) ∷ [] ∷ (1 ∷ 6 ∷ []) ∷ [] ∷ made ∷ []);
+}
+
+abbrev pub minor : ProblemParts
+minor = record {
+  stage = 6;
+  letters = 65 ∷ [];
+  leads = minor_lead 112 (1 ∷ 2 ∷ []) ∷ minor_lead 98 (1 ∷ 4 ∷ []) ∷ minor_lead 115 (1 ∷ 2 ∷ 3 ∷ 4 ∷ []) ∷ [];
+  query = asks 1 72 1;
+}
+
+-- its touches: bbb, bss, ppppp, ppbppb, pbspbs, pbspsb, psbpsb, bbsbbs, ssssss
+abbrev pub minor_touches : List (List ℕ)
+minor_touches =
+    (1 ∷ 1 ∷ 1 ∷ [])
+    ∷ (1 ∷ 2 ∷ 2 ∷ [])
+    ∷ (0 ∷ 0 ∷ 0 ∷ 0 ∷ 0 ∷ [])
+    ∷ (0 ∷ 0 ∷ 1 ∷ 0 ∷ 0 ∷ 1 ∷ [])
+    ∷ (0 ∷ 1 ∷ 2 ∷ 0 ∷ 1 ∷ 2 ∷ [])
+    ∷ (0 ∷ 1 ∷ 2 ∷ 0 ∷ 2 ∷ 1 ∷ [])
+    ∷ (0 ∷ 2 ∷ 1 ∷ 0 ∷ 2 ∷ 1 ∷ [])
+    ∷ (1 ∷ 1 ∷ 2 ∷ 1 ∷ 1 ∷ 2 ∷ [])
+    ∷ (2 ∷ 2 ∷ 2 ∷ 2 ∷ 2 ∷ 2 ∷ [])
+    ∷ []

@@ -10,6 +10,7 @@ pub mod Levels
 pub mod Dead
 pub mod Sizes
 pub mod Books
+pub mod Summaries
 pub mod Checks
 pub mod Limits
 pub mod Right

@@ -9,6 +9,7 @@ mod nodes;
 mod parts;
 mod ringing;
 mod sizes;
+mod summaries;
 mod touches;
 
 pub use books::{book_is_unique, fresh_problem_covers_its_kept, the_book_exists};
@@ -38,6 +39,7 @@ pub use nodes::{
 pub use parts::parts_have_one_answer;
 pub use ringing::{a_lead_rung_from_a_row, joined_callings_multiply, ringing_on};
 pub use sizes::{a_child_is_longer, sizes_are_sums, sizes_count_nodes};
+pub use summaries::a_summary_counts_by_length;
 pub use touches::{
     a_rotation_of_a_true_touch_is_one, a_rotation_of_a_wanted_touch_is_wanted,
     at_most_one_rotation_is_kept, each_wanted_class_has_a_kept_one, rotations_are_an_equivalence,
