@@ -4,7 +4,8 @@ use Rattle.std.specs.Cmp.{IsTotalOrder, IsEquivalence, both_tied}
 use Rattle.std.specs.Cmp.Lexicographic.{slice_cmp, pointwise}
 use Rattle.std.specs.Ordering.{nat_cmp, on, then_cmp, eq_of_both, is_eq}
 use Rattle.std.specs.declared.cmp.Ordering.{Ordering}
-use Rattle.std.proofs.Common.{arith, sym, nat_tests}
+use Rattle.std.proofs.Common.{arith, sym}
+use Rattle.std.proofs.lemmas.Bool.Decides.{nat_tests}
 use Rattle.std.proofs.lemmas.Cmp.{on_total, then_total, on_equiv, and_equiv, nat_eq_equiv, nat_list_eq_equiv, nat_cmp_total, nat_list_cmp_total}
 use Rattle.std.proofs.lemmas.Map.Text.{is_eq-slice_cmp}
 use Rattle.cr_model.specs.Problems.{ProblemParts}
@@ -33,4 +34,4 @@ numbers_tie a b = grind (arith, nat_tests)
 -- touches that are equal are those that tie in the order
 pub measured_eq_ties : (a b : ℕ × List ℕ) → measured_eq a b ≡ is_eq (measured_cmp a b)
 measured_eq_ties a b =
-    both_tied (nat_eq a.0 b.0) (nat_cmp a.0 b.0) (pointwise nat_eq a.1 b.1) (slice_cmp nat_cmp a.1 b.1) (numbers_tie a.0 b.0) (sym (is_eq-slice_cmp a.1 b.1))
+    both_tied (nat_eq a.0 b.0) (pointwise nat_eq a.1 b.1) (nat_cmp a.0 b.0) (slice_cmp nat_cmp a.1 b.1) (numbers_tie a.0 b.0) (sym (is_eq-slice_cmp a.1 b.1))

@@ -3,12 +3,12 @@
 ghost use Rattle.std.specs.Prelude.{◌≡◌, ◌<◌, ◌≤◌, ◌⊎◌, ℕ, List, length, Ok, Err};
 ghost use Rattle.cr_book.specs.declared.fault.CallingFault.TheVariants as fault;
 ghost use Rattle.cr_model.specs.Limits.{most_leads};
+ghost use Rattle.cr_model.specs.Sound.{IsSound};
 ghost use Rattle.cr_book.specs.Readings.{IsTextOf};
 ghost use Rattle.cr_book.specs.Reads.{Reads};
 ghost use Rattle.cr_book.specs.Leads.{lead_width, LeadReads};
 
 use crate::fault::CallingFault;
-use crate::laws::callings_differ_in_their_texts;
 use crate::steps::{method_of, step_with};
 use cr_model::limits::MOST_LEADS;
 use cr_model::{Calling, Problem};
@@ -21,15 +21,21 @@ pub fn read_calling(alloc: Global, problem: &Problem, text: &[u8]) -> Result<Cal
     ensures accepts { (calling : List ℕ) → IsTextOf problem.now text.now calling
         → (result ≡ Ok calling) ⊎ (result ≡ Err fault.NoMemory) }
 {
-    callings_differ_in_their_texts();
-    calling_of(alloc, problem, text)
+    let width = width_of(problem);
+    calling_of(alloc, problem, width, text)
 }
 
-// The same; a text is read lead by lead.
-fn calling_of(alloc: Global, problem: &Problem, text: &[u8]) -> Result<Calling, CallingFault>
+// The same, lead by lead, each of so many bytes.
+fn calling_of(
+    alloc: Global,
+    problem: &Problem,
+    width: usize,
+    text: &[u8],
+) -> Result<Calling, CallingFault>
+    requires sound { IsSound problem.now }
+    requires width { width ≡ lead_width problem.now }
     ensures { Reads problem.now text.now result }
 {
-    let width = width_of(problem);
     let mut steps = Vec::new(alloc);
     let mut place = 0;
     while place < text.len() {
@@ -62,7 +68,8 @@ fn whole(steps: Vec<u8>) -> Result<Calling, CallingFault>
 
 // The number of bytes of a lead.
 fn width_of(problem: &Problem) -> usize
-    ensures { result ≡ lead_width problem.now }
+    ensures is { result ≡ lead_width problem.now }
+    ensures sound { IsSound problem.now }
 {
     if problem.letters().len() > 1 {
         2
@@ -87,6 +94,7 @@ fn first_lead(problem: &Problem, text: &[u8]) -> Result<u8, u64>
 fn lettered_lead(problem: &Problem, text: &[u8]) -> Result<u8, u64>
     requires some { 0 < length text.now }
     requires several { 1 < length problem.now.letters }
+    requires sound { IsSound problem.now }
     ensures { LeadReads problem.now text.now result }
 {
     let method = match method_of(problem, text[0]) {
@@ -106,6 +114,7 @@ fn lettered_lead(problem: &Problem, text: &[u8]) -> Result<u8, u64>
 fn marked_lead(problem: &Problem, text: &[u8]) -> Result<u8, u64>
     requires some { 0 < length text.now }
     requires one { length problem.now.letters ≤ 1 }
+    requires sound { IsSound problem.now }
     ensures { LeadReads problem.now text.now result }
 {
     match step_with(problem, 0, text[0]) {

@@ -1,6 +1,6 @@
 //! The summary of a book.
 
-ghost use Rattle.std.specs.Prelude.{◌≡◌, ◌+◌, ◌++◌, ℕ, List, length, map, All, IfOk, get_or, flat_map};
+ghost use Rattle.std.specs.Prelude.{◌≡◌, ◌+◌, ◌++◌, ℕ, List, length, map, max, All, IfOk, get_or, flat_map, codes, decimal};
 ghost use Rattle.std.specs.List.{range_with_len};
 ghost use Rattle.std.specs.Fmt.{signed_decimal};
 ghost use Rattle.cr_model.specs.Callings.{HasSteps, length_of};
@@ -24,15 +24,34 @@ pub fn summary_text(
 {
     let numbers = count_lengths(alloc, problem, book)?;
     let mut text = Vec::new(alloc);
-    text.extend_from_slice(b"plain bob minor 1 to ")?;
-    write_signed(&mut text, problem.query().max)?;
-    text.extend_from_slice(b"\ntouches ")?;
-    write_number(&mut text, book.len() as u64)?;
-    text.extend_from_slice(b"\nlongest ")?;
-    write_number(&mut text, numbers.len() as u64 - 1)?;
-    text.push(b'\n')?;
+    let longest = numbers.len() as u64 - 1;
+    write_head(&mut text, problem.query().max, book.len() as u64, longest)?;
     write_lengths(&mut text, &numbers)?;
     Ok(text)
+}
+
+// The first three lines.
+fn write_head(text: &mut Vec<u8>, most: i64, touches: u64, longest: u64) -> Result<(), NoMemory>
+    ensures { IfOk result (λ _. text.new.items ≡ text.old.items
+        ++ ((codes "plain bob minor 1 to " ++ signed_decimal most ++ codes "\n")
+        ++ (codes "touches " ++ decimal touches ++ codes "\n")
+        ++ (codes "longest " ++ decimal longest ++ codes "\n"))) }
+{
+    text.extend_from_slice(b"plain bob minor 1 to ")?;
+    write_signed(text, most)?;
+    text.push(b'\n')?;
+    write_counted(text, b"touches ", touches)?;
+    write_counted(text, b"longest ", longest)
+}
+
+// A line of a name and a number.
+fn write_counted(text: &mut Vec<u8>, name: &[u8], number: u64) -> Result<(), NoMemory>
+    ensures { IfOk result (λ _. text.new.items ≡ text.old.items ++ (name.now ++ decimal number ++ codes "\n")) }
+{
+    text.extend_from_slice(name)?;
+    write_number(text, number)?;
+    text.push(b'\n')?;
+    Ok(())
 }
 
 // How many touches have each length, from 0 to the greatest.
@@ -50,12 +69,21 @@ fn count_lengths(
     numbers.push(0)?;
     for touch in book {
         let length = problem.length_of(touch) as usize;
-        while numbers.len() <= length {
-            numbers.push(0)?;
-        }
+        grow(&mut numbers, length)?;
         numbers[length] += 1;
     }
     Ok(numbers)
+}
+
+// Appends zeros, until there is a number for a length.
+fn grow(numbers: &mut Vec<u64>, long: usize) -> Result<(), NoMemory>
+    ensures size { IfOk result (λ _. length numbers.new.items ≡ max (length numbers.old.items) (long + 1)) }
+    ensures each { IfOk result (λ _. (k : ℕ) → get_or numbers.new.items k 0 ≡ get_or numbers.old.items k 0) }
+{
+    while numbers.len() <= long {
+        numbers.push(0)?;
+    }
+    Ok(())
 }
 
 // The line of each length that occurs.
