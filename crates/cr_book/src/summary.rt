@@ -9,7 +9,6 @@ ghost use Rattle.cr_model.specs.Summaries.{greatest, touches_as_long, length_lin
 use crate::texts::write_number;
 use cr_model::{Calling, Problem};
 use cr_row::NoMemory;
-use itoa::Buffer;
 use std::alloc::Global;
 
 /// The summary of a book: the query's `max`, the number of touches, the greatest length (0 where there is
@@ -25,23 +24,30 @@ pub fn summary_text(
     let numbers = count_lengths(alloc, problem, book)?;
     let mut text = Vec::new(alloc);
     let longest = numbers.len() as u64 - 1;
-    write_head(&mut text, problem.query().max, book.len() as u64, longest)?;
+    write_head(&mut text, most_of(problem), book.len() as u64, longest)?;
     write_lengths(&mut text, &numbers)?;
     Ok(text)
 }
 
+// The greatest length that was asked for, which is above 0.
+#[tactic(auto, using(crate::proofs::Tallies::asked_is))]
+fn most_of(problem: &Problem) -> u64
+    ensures { decimal result ≡ signed_decimal problem.now.query.max }
+{
+    problem.query().max.unsigned_abs()
+}
+
 // The first three lines.
-fn write_head(text: &mut Vec<u8>, most: i64, touches: u64, longest: u64) -> Result<(), NoMemory>
+fn write_head(text: &mut Vec<u8>, most: u64, touches: u64, longest: u64) -> Result<(), NoMemory>
     ensures { IfOk result (λ _. text.new.items ≡ text.old.items
-        ++ ((codes "plain bob minor 1 to " ++ signed_decimal most ++ codes "\n")
+        ++ ((codes "plain bob minor 1 to " ++ decimal most ++ codes "\n")
         ++ (codes "touches " ++ decimal touches ++ codes "\n")
         ++ (codes "longest " ++ decimal longest ++ codes "\n"))) }
 {
-    text.extend_from_slice(b"plain bob minor 1 to ")?;
-    write_signed(text, most)?;
-    text.push(b'\n')?;
+    write_counted(text, b"plain bob minor 1 to ", most)?;
     write_counted(text, b"touches ", touches)?;
-    write_counted(text, b"longest ", longest)
+    write_counted(text, b"longest ", longest)?;
+    Ok(())
 }
 
 // A line of a name and a number.
@@ -108,13 +114,5 @@ fn write_length(text: &mut Vec<u8>, long: u64, number: u64) -> Result<(), NoMemo
     text.push(b' ')?;
     write_number(text, number)?;
     text.push(b'\n')?;
-    Ok(())
-}
-
-// A number in decimal digits, which may be negative.
-fn write_signed(text: &mut Vec<u8>, number: i64) -> Result<(), NoMemory>
-    ensures { IfOk result (λ _. text.new.items ≡ text.old.items ++ signed_decimal number) }
-{
-    text.extend_from_slice(Buffer::new().format(number).as_bytes())?;
     Ok(())
 }
