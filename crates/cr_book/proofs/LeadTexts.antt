@@ -43,14 +43,14 @@ module _ (p : ProblemParts) (sound : IsSound p) where
   pub one_lead : (step other : ℕ) → step < length p.leads → other < length p.leads → lead_text p step ≡ lead_text p other → step ≡ other
   one_lead step other inside within same = elim (cases_lt 1 (length p.letters)) [
     | inl many ↦
-      let both : letter_of p step ∷ mark_of p step ∷ [] ≡ letter_of p other ∷ mark_of p other ∷ [] = sym (lettered p many step) ∙ same ∙ lettered p many other in
-      let method : method_of p step ≡ method_of p other =
-      one_method p sound (method_of p step) (method_of p other) (known_method p sound step inside) (known_method p sound other within) (ap (λ l. get_or l 0 0) both) in
-      one_step p sound step other inside within method (ap (λ l. get_or l 1 0) both)
+        let both : letter_of p step ∷ mark_of p step ∷ [] ≡ letter_of p other ∷ mark_of p other ∷ [] = sym (lettered p many step) ∙ same ∙ lettered p many other in
+        let method : method_of p step ≡ method_of p other =
+        one_method p sound (method_of p step) (method_of p other) (known_method p sound step inside) (known_method p sound other within) (ap (λ l. get_or l 0 0) both) in
+        one_step p sound step other inside within method (ap (λ l. get_or l 1 0) both)
     | inr few ↦
-      let marks : mark_of p step ∷ [] ≡ mark_of p other ∷ [] = sym (marked p few step) ∙ same ∙ marked p few other in
-      let method : method_of p step ≡ method_of p other = omega (arith, few, known_method p sound step inside, known_method p sound other within) in
-      one_step p sound step other inside within method (ap (λ l. get_or l 0 0) marks)
+        let marks : mark_of p step ∷ [] ≡ mark_of p other ∷ [] = sym (marked p few step) ∙ same ∙ marked p few other in
+        let method : method_of p step ≡ method_of p other = omega (arith, few, known_method p sound step inside, known_method p sound other within) in
+        one_step p sound step other inside within method (ap (λ l. get_or l 0 0) marks)
   ]
 
   -- a calling's text is its alone
@@ -89,8 +89,8 @@ module _ (p : ProblemParts) (sound : IsSound p) where
   lettered_right many (x ∷ y ∷ text) method step some more letter is = (
     is.known,
     lettered p many step
-    ∙ ap₂ (λ l m. l ∷ m ∷ []) (ap (λ k. get_or p.letters k 0) is.method_is ∙ letter) is.mark_is
-    ∙ ap (λ w. take w (x ∷ y ∷ text)) (sym (two_wide p many)),
+        ∙ ap₂ (λ l m. l ∷ m ∷ []) (ap (λ k. get_or p.letters k 0) is.method_is ∙ letter) is.mark_is
+        ∙ ap (λ w. take w (x ∷ y ∷ text)) (sym (two_wide p many)),
   )
 
   -- no method's letter

@@ -27,10 +27,16 @@ onward a b c one two = elim one [
   ]
   | inr same ↦ elim two [
     | inl more ↦ inl (let e : a.method ≡ b.method = same.0 in omega arith)
-    | inr also ↦ inr (same.0 ∙ also.0, (also.1.0, elim same.1.1 [
-      | inl first ↦ inl first
-      | inr below ↦ elim also.1.1 [ inl at ↦ absurd (same.1.0 at) | inr above ↦ inr (omega arith) ]
-    ]))
+    | inr also ↦ inr (
+      same.0 ∙ also.0,
+      (
+        also.1.0,
+        elim same.1.1 [
+          | inl first ↦ inl first
+          | inr below ↦ elim also.1.1 [ inl at ↦ absurd (same.1.0 at) | inr above ↦ inr (omega arith) ]
+        ],
+      ),
+    )
   ]
 ]
 
@@ -59,7 +65,7 @@ module _ (p : ProblemParts) (sound : IsSound p) where
       let back : suc j - 1 ≡ j = omega arith in
       let next : IsBefore (step_of p j) (step_of p (suc j)) =
       next_is_after (step_of p j) (step_of p (suc j))
-          (subst (λ k. IsNextStep (step_of p k) (step_of p (suc j))) back ((right (suc j) inside).next.later (omega arith))) in
+      (subst (λ k. IsNextStep (step_of p k) (step_of p (suc j))) back ((right (suc j) inside).next.later (omega arith))) in
       elim (cases_lt i j) [
         | inl earlier ↦ onward (step_of p i) (step_of p j) (step_of p (suc j)) (ascend j i earlier (omega arith)) next
         | inr at ↦ let same : j ≡ i = omega arith in subst (λ k. IsBefore (step_of p k) (step_of p (suc j))) same next
@@ -69,15 +75,15 @@ module _ (p : ProblemParts) (sound : IsSound p) where
   pub one_step : (i j : ℕ) → i < length p.leads → j < length p.leads → method_of p i ≡ method_of p j → mark_of p i ≡ mark_of p j → i ≡ j
   one_step i j inside within method mark =
       neither i j
-          (λ less. apart (step_of p i) (step_of p j) (ascend j i less within) method mark)
-          (λ less. apart (step_of p j) (step_of p i) (ascend i j less inside) (sym method) (sym mark))
+      (λ less. apart (step_of p i) (step_of p j) (ascend j i less within) method mark)
+      (λ less. apart (step_of p j) (step_of p i) (ascend i j less inside) (sym method) (sym mark))
 
   -- a letter has one method
   pub one_method : (i j : ℕ) → i < length p.letters → j < length p.letters → get_or p.letters i 0 ≡ get_or p.letters j 0 → i ≡ j
   one_method i j inside within same =
       neither i j
-          (λ less. ((sound_letters p sound).each j within).new i less same)
-          (λ less. ((sound_letters p sound).each i inside).new j less (sym same))
+      (λ less. ((sound_letters p sound).each j within).new i less same)
+      (λ less. ((sound_letters p sound).each i inside).new j less (sym same))
 
   -- a step's method is known
   pub known_method : (step : ℕ) → step < length p.leads → method_of p step < length p.letters

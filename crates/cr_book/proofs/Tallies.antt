@@ -82,11 +82,12 @@ three_written old one two three a b c first second third =
 
 -- a greatest length is above 0
 pub asked_is : (p : ProblemParts) → IsSound p → (n : ℕ) → n ≡ nat_abs p.query.max → decimal n ≡ signed_decimal p.query.max
-asked_is p sound n is = ap decimal is ∙ by p.query.max (sound_range p sound).from (sound_range p sound).order
+asked_is p sound n is = ap decimal is ∙ by p.query.min p.query.max (sound_range p sound).from (sound_range p sound).order
   where
-    by : (z : ℤ) → pos 1 ≤ℤ p.query.min → p.query.min ≤ℤ z → decimal (nat_abs z) ≡ signed_decimal z
-    by (pos n) from order = refl
-    by (negsuc n) from order = absurd (omega arith)
+    by : (low high : ℤ) → pos 1 ≤ℤ low → low ≤ℤ high → decimal (nat_abs high) ≡ signed_decimal high
+    by low (pos n) from order = refl
+    by (pos l) (negsuc n) from order = absurd (omega arith)
+    by (negsuc l) (negsuc n) from order = absurd (omega arith)
 
 -- the first three lines of a summary
 abbrev head_of : ℕ → ℕ → ℕ → List ℕ
@@ -105,6 +106,6 @@ summed most asked lengths numbers old text now count longest size each wish all 
     let greatest_is : longest ≡ greatest lengths = omega arith in
     lines
     ∙ ap₂ ◌++◌
-        (head ∙ ap (λ l. l ++ head_of asked count longest) none ∙ ap₂ (head_of asked) all greatest_is
-        ∙ ap (λ l. (codes "plain bob minor 1 to " ++ l ++ codes "\n") ++ (codes "touches " ++ decimal (length lengths) ++ codes "\n") ++ (codes "longest " ++ decimal (greatest lengths) ++ codes "\n")) wish)
-        (lines_are lengths numbers size each)
+    (head ∙ ap (λ l. l ++ head_of asked count longest) none ∙ ap₂ (head_of asked) all greatest_is
+    ∙ ap (λ l. (codes "plain bob minor 1 to " ++ l ++ codes "\n") ++ (codes "touches " ++ decimal (length lengths) ++ codes "\n") ++ (codes "longest " ++ decimal (greatest lengths) ++ codes "\n")) wish)
+    (lines_are lengths numbers size each)

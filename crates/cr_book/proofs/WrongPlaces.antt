@@ -30,7 +30,7 @@ begins_shorter p front more can = record {
 front_begins : (p : ProblemParts) (text : List ℕ) (less more : ℕ) → less ≤ more → CanBegin p (take more text) → CanBegin p (take less text)
 front_begins p text less more within can =
     begins_shorter p (take less text) (drop less (take more text))
-        (subst (CanBegin p) (sym (take-append-drop less (take more text)) ∙ ap (λ l. l ++ drop less (take more text)) (take-take less more text within)) can)
+    (subst (CanBegin p) (sym (take-append-drop less (take more text)) ∙ ap (λ l. l ++ drop less (take more text)) (take-take less more text within)) can)
 
 -- of two places the first is not the less
 not_less : (p : ProblemParts) (text : List ℕ) (place other : ℕ) → IsFirstWrong p text place → IsFirstWrong p text other → place < other → ⊥
@@ -73,9 +73,9 @@ module _ (p : ProblemParts) (sound : IsSound p) where
         few = omega (arith, length_push steps step);
         within = omega (arith, long);
         is =
-          flat_map-append (lead_text p) steps (step ∷ [])
-          ∙ ap₂ ◌++◌ so_far.is (append-nil (lead_text p step) ∙ is)
-          ∙ sym (take-add place (lead_width p) text);
+            flat_map-append (lead_text p) steps (step ∷ [])
+            ∙ ap₂ ◌++◌ so_far.is (append-nil (lead_text p step) ∙ is)
+            ∙ sym (take-add place (lead_width p) text);
       }
 
   -- a calling of the greatest number of steps does not go on
@@ -162,10 +162,10 @@ module _ (p : ProblemParts) (sound : IsSound p) where
   all_read text steps place r so_far done nothing something = elim (cases_lt 0 (length steps)) [
     | inl some ↦ subst (Reads p text) (sym (something some)) (whole_text text steps place so_far done some)
     | inr few ↦
-      let none : length steps ≡ 0 = omega arith in
-      let nil : steps ≡ [] = nil_from_length steps none in
-      let empty : length text ≡ 0 = ap length (sym (take_all place text done) ∙ sym so_far.is ∙ ap (calling_text p) nil) in
-      subst (Reads p text) (sym (nothing none)) (no_text text empty)
+        let none : length steps ≡ 0 = omega arith in
+        let nil : steps ≡ [] = nil_from_length steps none in
+        let empty : length text ≡ 0 = ap length (sym (take_all place text done) ∙ sym so_far.is ∙ ap (calling_text p) nil) in
+        subst (Reads p text) (sym (nothing none)) (no_text text empty)
   ]
 
   -- no lead's text goes on as the text does
@@ -180,7 +180,7 @@ module _ (p : ProblemParts) (sound : IsSound p) where
       let is : take (place + 1) (lead_text p step) ≡ take (place + 1) text =
       sym (take-append-le (place + 1) (lead_text p step) (calling_text p rest) fits) ∙ ap (take (place + 1)) e ∙ same in
       wrong.here inside step (All-head (λ s. s < length p.leads) step rest known) (drop (place + 1) (lead_text p step))
-          (sym (take-append-drop (place + 1) (lead_text p step)) ∙ ap (λ l. l ++ drop (place + 1) (lead_text p step)) is)
+      (sym (take-append-drop (place + 1) (lead_text p step)) ∙ ap (λ l. l ++ drop (place + 1) (lead_text p step)) is)
 
   -- no calling has a text that ends within a lead
   no_end : (text : List ℕ) (place : ℕ) → LeadIsWrong p text place → length text ≤ place → 0 < length text
@@ -217,9 +217,9 @@ module _ (p : ProblemParts) (sound : IsSound p) where
               few = omega (arith, length_push steps before.step);
             };
             is =
-              flat_map-append (lead_text p) steps (before.step ∷ [])
-              ∙ ap (λ l. calling_text p steps ++ l) (append-nil (lead_text p before.step) ∙ before.begins)
-              ∙ sym (split_front text steps before.more place count so_far);
+                flat_map-append (lead_text p) steps (before.step ∷ [])
+                ∙ ap (λ l. calling_text p steps ++ l) (append-nil (lead_text p before.step) ∙ before.begins)
+                ∙ sym (split_front text steps before.more place count so_far);
           };
         };
         here = elim (cases_lt count (length (drop place text))) [
@@ -231,7 +231,7 @@ module _ (p : ProblemParts) (sound : IsSound p) where
               ap (λ n. take n text ++ can.more) sum ∙ split_front text steps can.more place (count + 1) so_far in
               let rest = later steps (front ++ can.more) can.calling so_far.known (subst (λ l. IsTextOf p l can.calling) cut can.begins) in
               no_lead (drop place text) count wrong more (front ++ can.more) rest.rest rest.known rest.text
-                  (take_at front can.more (count + 1) long) (omega (arith, length-append front can.more, long)))
+              (take_at front can.more (count + 1) long) (omega (arith, length-append front can.more, long)))
           | inr ends ↦ inl (omega arith)
         ];
       }

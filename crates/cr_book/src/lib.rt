@@ -14,4 +14,3 @@ pub use order::sort_found;
 pub use reading::read_calling;
 pub use summary::summary_text;
 pub use texts::{book_text, calling_text};
-

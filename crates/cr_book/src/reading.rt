@@ -71,11 +71,7 @@ fn width_of(problem: &Problem) -> usize
     ensures is { result ≡ lead_width problem.now }
     ensures sound { IsSound problem.now }
 {
-    if problem.letters().len() > 1 {
-        2
-    } else {
-        1
-    }
+    if problem.letters().len() > 1 { 2 } else { 1 }
 }
 
 // The step whose lead the text begins with, or the place of the text's first byte that cannot be.

@@ -13,11 +13,7 @@ use std::alloc::Global;
 
 /// The summary of a book: the query's `max`, the number of touches, the greatest length (0 where there is
 /// none), and for each length that occurs, ascending, the number of its touches. Err where no memory is left.
-pub fn summary_text(
-    alloc: Global,
-    problem: &Problem,
-    book: &[Calling],
-) -> Result<Vec<u8>, NoMemory>
+pub fn summary_text(alloc: Global, problem: &Problem, book: &[Calling]) -> Result<Vec<u8>, NoMemory>
     requires { All (HasSteps problem.now) book.now }
     ensures { IfOk result (λ text. text.items ≡ text_of_summary problem.now book.now) }
 {
@@ -61,11 +57,7 @@ fn write_counted(text: &mut Vec<u8>, name: &[u8], number: u64) -> Result<(), NoM
 }
 
 // How many touches have each length, from 0 to the greatest.
-fn count_lengths(
-    alloc: Global,
-    problem: &Problem,
-    book: &[Calling],
-) -> Result<Vec<u64>, NoMemory>
+fn count_lengths(alloc: Global, problem: &Problem, book: &[Calling]) -> Result<Vec<u64>, NoMemory>
     requires { All (HasSteps problem.now) book.now }
     ensures size { IfOk result (λ numbers. length numbers.items ≡ greatest (map (length_of problem.now) book.now) + 1) }
     ensures each { IfOk result (λ numbers. (long : ℕ) → get_or numbers.items long 0

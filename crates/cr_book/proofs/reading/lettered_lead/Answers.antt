@@ -10,9 +10,9 @@ returns-in-None c =
 pub returns-then-text-eq1 : goal.returns-then-text-eq1
 returns-then-text-eq1 c =
     letter_alone c.args.problem.now c.requires.sound c.requires.several c.args.text.now c.in-Some.method c.if-text-eq1.true
-        c.in-Some.ensures.known c.in-Some.ensures.is
+    c.in-Some.ensures.known c.in-Some.ensures.is
 
 pub returns-in-None-step_with : goal.returns-in-None-step_with
 returns-in-None-step_with c =
     mark_wrong c.args.problem.now c.requires.sound c.requires.several c.args.text.now c.in-Some.method c.requires.some c.if-text-eq1.false
-        c.in-Some.ensures.known c.in-Some.ensures.is (c.in-None-step_with.ensures.none refl)
+    c.in-Some.ensures.known c.in-Some.ensures.is (c.in-None-step_with.ensures.none refl)

@@ -5,4 +5,4 @@ use Rattle.cr_book.proofs.summary.write_head.Goals as goal
 pub returns : goal.returns
 returns c =
     three_written c.args.text.now.items _ _ _ _ _ _ c.in_ok-write_counted.ensures c.in_ok-write_counted-2.ensures
-        c.in_ok-write_counted-3.ensures
+    c.in_ok-write_counted-3.ensures

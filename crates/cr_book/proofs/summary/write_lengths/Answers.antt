@@ -7,4 +7,4 @@ use Rattle.cr_book.proofs.summary.write_lengths.Goals as goal
 pub loop-long-preserved : goal.loop-long-preserved
 loop-long-preserved c =
     written_on (λ long. length_line long (get_or c.args.numbers.now long 0)) c.loop-long.long c.args.text.now.items c.loop-long.text.items _
-        c.loop-long.invariant c.in_ok-write_length.ensures
+    c.loop-long.invariant c.in_ok-write_length.ensures
