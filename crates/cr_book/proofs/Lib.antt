@@ -1,0 +1,6 @@
+pub mod StepsDiffer
+pub mod PrefixCodes
+pub mod LeadTexts
+pub mod WrongPlaces
+pub mod Sorting
+pub mod Tallies

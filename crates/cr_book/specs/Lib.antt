@@ -1,0 +1,4 @@
+pub mod Readings
+pub mod Reads
+pub mod Leads
+pub mod Measures

@@ -1,0 +1,34 @@
+//! Laws of texts and of the book's order. Each is the contract of a function that does nothing.
+
+ghost use Rattle.std.specs.Prelude.{◌≡◌, ◌≤◌, ◌↔◌, ℕ, List, Contains};
+ghost use Rattle.std.specs.List.Sorted.{IsPermutation, IsSorted, IsStrictlySortedBy};
+ghost use Rattle.cr_model.specs.Problems.{ProblemParts};
+ghost use Rattle.cr_model.specs.Callings.{HasSteps};
+ghost use Rattle.cr_model.specs.Nodes.{Covers, times_found};
+ghost use Rattle.cr_model.specs.Books.{IsBook, book_order, calling_text};
+ghost use Rattle.cr_model.specs.Sound.{IsSound};
+ghost use Rattle.cr_book.specs.Readings.{IsTextOf, IsFirstWrong};
+
+/// Callings of a problem that differ have texts that differ, since its steps differ in letter or mark.
+pub fn callings_differ_in_their_texts()
+    ensures { (p : ProblemParts) → IsSound p → (calling other : List ℕ) → HasSteps p calling → HasSteps p other
+        → calling_text p calling ≡ calling_text p other → calling ≡ other }
+{}
+
+/// A text that is no calling's goes wrong first at one place.
+pub fn one_place_is_first_wrong()
+    ensures { (p : ProblemParts) (text : List ℕ) (place other : ℕ) → IsFirstWrong p text place
+        → IsFirstWrong p text other → place ≡ other }
+{}
+
+/// What was found, none of it twice, is in strict order once it is sorted; and where it is what found touches
+/// and nodes cover, that is their book.
+pub fn what_is_sorted_is_the_book()
+    ensures strict { (p : ProblemParts) (callings sorted : List (List ℕ)) → IsPermutation callings sorted
+        → IsSorted (book_order p) sorted → ((calling : List ℕ) → times_found callings calling ≤ 1)
+        → IsStrictlySortedBy (book_order p) sorted }
+    ensures book { (p : ProblemParts) (found nodes callings sorted : List (List ℕ)) → IsPermutation callings sorted
+        → IsSorted (book_order p) sorted → ((calling : List ℕ) → times_found callings calling ≤ 1)
+        → ((calling : List ℕ) → Contains callings calling ↔ Covers p found nodes calling)
+        → IsBook p found nodes sorted }
+{}

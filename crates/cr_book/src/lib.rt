@@ -1,0 +1,19 @@
+//! The printed book: callings and books as texts, the summary of a book, found touches in the book's order, and callings read back.
+#![tactic(auto)]
+
+mod fault;
+pub mod laws;
+mod order;
+mod reading;
+mod steps;
+mod summary;
+mod texts;
+
+pub use fault::CallingFault;
+pub use order::sort_found;
+pub use reading::read_calling;
+pub use summary::summary_text;
+pub use texts::{book_text, calling_text};
+
+#[cfg(test)]
+mod tests;
