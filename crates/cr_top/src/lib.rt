@@ -1,7 +1,6 @@
 //! The top call: from the words of the command line and the bytes of the input to the bytes of the book.
 #![tactic(auto)]
 
-mod book;
 mod notes;
 #[cfg(test)]
 mod notes_tests;

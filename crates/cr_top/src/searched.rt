@@ -4,8 +4,8 @@ ghost use Rattle.std.specs.Prelude.{◌≡◌, ℕ, List, [], ◌∷◌, IfOk};
 ghost use Rattle.cr_model.specs.Books.{IsBook, book_text as text_of_book};
 ghost use Rattle.cr_top.specs.Plain.{IsPlain};
 
-use crate::book::book_text;
 use crate::search::plain_book;
+use cr_book::book_text;
 use cr_model::Problem;
 use cr_row::NoMemory;
 use std::alloc::Global;

@@ -1,9 +1,7 @@
 //! What no clause says: whole calls, from words and bytes to status, bytes and note, with ample memory.
 
 use super::ringsearch;
-use crate::book::calling_text;
 use cr_io::{MemSink, MemSource};
-use cr_read::read_problem;
 use std::test::Fail;
 
 // Which case it is, the stage, the method, the least and the greatest length, and the book.
@@ -342,45 +340,4 @@ fn run<R: AllocGlobal>(rt: &R, call: Call) -> Result<(), Fail> {
     } else {
         Err(Fail::from(name))
     }
-}
-
-const TWO_METHODS: &[u8] = b"stage = 4
-[[method]]
-letter = \"X\"
-notation = \"x14\"
-[[method]]
-letter = \"K\"
-notation = \"x12\"
-[[call]]
-mark = \"b\"
-notation = \"14\"
-[query]
-min = 1
-max = 24
-";
-
-// Which steps are rung, and the calling's text. The steps are p and b of X, and then those of K.
-const CALLINGS: [(&[u8], &str); 4] = [
-    (&[], ""),
-    (&[0], "Xp"),
-    (&[3, 0, 1, 2], "KbXpXbKp"),
-    (&[2, 2], "KpKp"),
-];
-
-#[test]
-fn texts_of_several_steps(rt: HostRuntime) -> Result<(), Fail> {
-    let problem = match read_problem(rt.alloc(), TWO_METHODS) {
-        Ok(problem) => problem,
-        Err(_) => return Err(Fail::from("the file is a problem's")),
-    };
-    for (steps, want) in CALLINGS {
-        if !problem.has_steps(steps) {
-            return Err(Fail::from(want));
-        }
-        let text = calling_text(rt.alloc(), &problem, steps)?;
-        if text.as_slice() != want.as_bytes() {
-            return Err(Fail::from(want));
-        }
-    }
-    Ok(())
 }
