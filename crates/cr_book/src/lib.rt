@@ -14,3 +14,6 @@ pub use order::sort_found;
 pub use reading::read_calling;
 pub use summary::summary_text;
 pub use texts::{book_text, calling_text};
+
+#[cfg(test)]
+mod tests;

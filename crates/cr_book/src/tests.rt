@@ -1,0 +1,295 @@
+//! What no clause says: printed texts, and each call once with ample memory.
+
+ghost use Rattle.std.specs.Prelude.{IsTrue, All};
+ghost use Rattle.cr_model.specs.Callings.{HasSteps};
+
+use super::*;
+use cr_model::{Calling, Lead, Problem, Query, Step};
+use cr_row::{Change, Stage};
+use std::alloc::Global;
+use std::test::Fail;
+
+// A lead by its method, its mark and the places of its last change; the others are those of the plain course.
+#[derive(Clone, Copy)]
+struct LeadRow(u8, u8, &'static [u8]);
+
+// A problem in short.
+#[derive(Clone, Copy)]
+struct Draft {
+    stage: u8,
+    max: i64,
+    letters: &'static [u8],
+    leads: &'static [LeadRow],
+}
+
+const DOUBLES: Draft = Draft {
+    stage: 5,
+    max: 120,
+    letters: b"A",
+    leads: &[LeadRow(0, b'p', &[1, 2, 5]), LeadRow(0, b'b', &[1, 4, 5])],
+};
+
+const MINOR: Draft = Draft {
+    stage: 6,
+    max: 72,
+    letters: b"A",
+    leads: &[
+        LeadRow(0, b'p', &[1, 2]),
+        LeadRow(0, b'b', &[1, 4]),
+        LeadRow(0, b's', &[1, 2, 3, 4]),
+    ],
+};
+
+// The method X with a bob, and K without.
+const SPLICED: Draft = Draft {
+    stage: 5,
+    max: 120,
+    letters: b"XK",
+    leads: &[
+        LeadRow(0, b'p', &[1, 2, 5]),
+        LeadRow(0, b'b', &[1, 4, 5]),
+        LeadRow(1, b'p', &[1, 2, 5]),
+    ],
+};
+
+fn change_of(stage: Stage, places: &[u8]) -> Result<Change, Fail> {
+    Ok(Change::from_places(stage, places)
+        .ok()
+        .ok_or("the places are those of a change")?)
+}
+
+// Plain hunting, and the last change.
+fn lead_of(alloc: Global, stage: Stage, row: LeadRow) -> Result<Lead, Fail> {
+    let (one, other): (&[u8], &[u8]) = if stage.number() == 5 {
+        (&[5], &[1])
+    } else {
+        (&[], &[1, 6])
+    };
+    let mut changes = Vec::new(alloc);
+    for index in 1..2 * stage.number() {
+        let places = if index % 2 == 1 { one } else { other };
+        changes.push(change_of(stage, places)?)?;
+    }
+    changes.push(change_of(stage, row.2)?)?;
+    let step = Step {
+        method: row.0,
+        mark: row.1,
+    };
+    Ok(Lead { step, changes })
+}
+
+fn problem_of(alloc: Global, draft: Draft) -> Result<Problem, Fail> {
+    let stage = Stage::new(draft.stage).ok_or("the stage is from 3 to 16")?;
+    let mut leads = Vec::new(alloc);
+    for row in draft.leads {
+        leads.push(lead_of(alloc, stage, *row)?)?;
+    }
+    let query = Query {
+        min: 1,
+        max: draft.max,
+        parts: 1,
+        counts: Vec::new(alloc),
+        method_counts: Vec::new(alloc),
+        patterns: Vec::new(alloc),
+        com: None,
+    };
+    match Problem::new(stage, draft.letters.to_vec(alloc)?, leads, query) {
+        Ok(problem) => Ok(problem),
+        Err(_) => Err(Fail::from("the parts are a problem's")),
+    }
+}
+
+fn callings_of(alloc: Global, rows: &[&[u8]]) -> Result<Vec<Calling>, Fail> {
+    let mut callings = Vec::new(alloc);
+    for steps in rows {
+        match Calling::new(steps.to_vec(alloc)?) {
+            Ok(calling) => callings.push(calling)?,
+            Err(_) => return Err(Fail::from("there are few steps")),
+        }
+    }
+    Ok(callings)
+}
+
+fn all_known(problem: &Problem, callings: &[Calling]) -> bool
+    ensures { IsTrue result → All (HasSteps problem.now) callings.now }
+{
+    callings
+        .iter()
+        .all(|calling| problem.has_steps(calling.steps()))
+}
+
+// The touches of Plain Bob Doubles, not in order: two of them have 60 changes once one more is put in.
+const FOUND: [&[u8]; 6] = [
+    &[0, 0, 0, 1, 0, 0, 0, 1, 0, 0, 0, 1],
+    &[0, 0, 0, 0],
+    &[1, 0, 1, 0, 1, 0],
+    &[1, 1],
+    &[0, 0, 1, 0, 1, 0, 0, 1, 0, 1],
+    &[0, 1, 0, 1, 0, 1],
+];
+
+const SORTED: &str = "20 bb\n40 pppp\n60 pbpbpb\n60 bpbpbp\n100 ppbpbppbpb\n120 pppbpppbpppb\ntouches 6\n";
+
+const BOOK: [&[u8]; 5] = [
+    &[1, 1],
+    &[0, 0, 0, 0],
+    &[0, 1, 0, 1, 0, 1],
+    &[0, 0, 1, 0, 1, 0, 0, 1, 0, 1],
+    &[0, 0, 0, 1, 0, 0, 0, 1, 0, 0, 0, 1],
+];
+
+const PRINTED: &str = "20 bb\n40 pppp\n60 pbpbpb\n100 ppbpbppbpb\n120 pppbpppbpppb\ntouches 5\n";
+
+#[test]
+fn found_touches_are_sorted(rt: HostRuntime) -> Result<(), Fail> {
+    let alloc = rt.alloc();
+    let problem = problem_of(alloc, DOUBLES)?;
+    let found = callings_of(alloc, &FOUND)?;
+    if !all_known(&problem, &found) {
+        return Err(Fail::from("the steps exist"));
+    }
+    let sorted = sort_found(alloc, &problem, found)?;
+    if !all_known(&problem, &sorted) {
+        return Err(Fail::from("the sorted steps exist"));
+    }
+    let text = book_text(alloc, &problem, &sorted)?;
+    assert!(rt; text.as_slice() == SORTED.as_bytes());
+    Ok(())
+}
+
+#[test]
+fn a_book_is_printed(rt: HostRuntime) -> Result<(), Fail> {
+    let alloc = rt.alloc();
+    let problem = problem_of(alloc, DOUBLES)?;
+    let book = callings_of(alloc, &BOOK)?;
+    if !all_known(&problem, &book) {
+        return Err(Fail::from("the steps exist"));
+    }
+    let text = book_text(alloc, &problem, &book)?;
+    assert!(rt; text.as_slice() == PRINTED.as_bytes());
+    Ok(())
+}
+
+const TOUCHES: [&[u8]; 9] = [
+    &[1, 1, 1],
+    &[1, 2, 2],
+    &[0, 0, 0, 0, 0],
+    &[0, 0, 1, 0, 0, 1],
+    &[0, 1, 2, 0, 1, 2],
+    &[0, 1, 2, 0, 2, 1],
+    &[0, 2, 1, 0, 2, 1],
+    &[1, 1, 2, 1, 1, 2],
+    &[2, 2, 2, 2, 2, 2],
+];
+
+// The touches, and their summary.
+const SUMMARIES: [(&[&[u8]], &str); 2] = [
+    (
+        &TOUCHES,
+        "plain bob minor 1 to 72\ntouches 9\nlongest 72\n36 2\n60 1\n72 6\n",
+    ),
+    (&[], "plain bob minor 1 to 72\ntouches 0\nlongest 0\n"),
+];
+
+#[test]
+fn summaries(rt: HostRuntime) -> Result<(), Fail> {
+    let alloc = rt.alloc();
+    let problem = problem_of(alloc, MINOR)?;
+    for (rows, want) in SUMMARIES {
+        let book = callings_of(alloc, rows)?;
+        if !all_known(&problem, &book) {
+            return Err(Fail::from("the steps exist"));
+        }
+        let text = summary_text(alloc, &problem, &book)?;
+        if text.as_slice() != want.as_bytes() {
+            return Err(Fail::from(want));
+        }
+    }
+    Ok(())
+}
+
+// Which case it is, the text, and its steps, or the place of the first byte that cannot be.
+type Reading = (&'static str, &'static [u8], Result<&'static [u8], u64>);
+
+const OF_ONE: [Reading; 5] = [
+    ("the plain course", b"pppp", Ok(&[0, 0, 0, 0])),
+    ("plain and bob", b"ppb", Ok(&[0, 0, 1])),
+    ("the empty text", b"", Err(0)),
+    ("an unknown mark", b"pbs", Err(2)),
+    ("a letter that is not printed", b"Ap", Err(0)),
+];
+
+const OF_SEVERAL: [Reading; 8] = [
+    ("spliced", b"KpXpXbKp", Ok(&[2, 0, 1, 2])),
+    ("a letter without mark", b"XpK", Err(3)),
+    ("a mark without letter", b"Xpp", Err(2)),
+    ("an unknown mark", b"XpXs", Err(3)),
+    ("a method's letter twice", b"XXp", Err(1)),
+    ("a mark that this method has not", b"XbKb", Err(3)),
+    ("an unknown letter", b"KpAp", Err(2)),
+    ("the empty text", b"", Err(0)),
+];
+
+fn read_back(alloc: Global, problem: &Problem, reading: Reading) -> Result<(), Fail> {
+    let (name, text, want) = reading;
+    let as_wanted = match (read_calling(alloc, problem, text), want) {
+        (Ok(calling), Ok(steps)) => calling.steps() == steps,
+        (Err(CallingFault::At(place)), Err(wrong)) => place == wrong,
+        _ => false,
+    };
+    if as_wanted {
+        Ok(())
+    } else {
+        Err(Fail::from(name))
+    }
+}
+
+#[test]
+fn callings_are_read_back(rt: HostRuntime) -> Result<(), Fail> {
+    let alloc = rt.alloc();
+    let doubles = problem_of(alloc, DOUBLES)?;
+    for reading in OF_ONE {
+        read_back(alloc, &doubles, reading)?;
+    }
+    let spliced = problem_of(alloc, SPLICED)?;
+    for reading in OF_SEVERAL {
+        read_back(alloc, &spliced, reading)?;
+    }
+    Ok(())
+}
+
+const PLAIN: [u8; 1025] = [b'p'; 1025];
+
+#[test]
+fn callings_have_1024_steps_at_most(rt: HostRuntime) -> Result<(), Fail> {
+    let alloc = rt.alloc();
+    let problem = problem_of(alloc, DOUBLES)?;
+    let whole = read_calling(alloc, &problem, &PLAIN[..1024]);
+    assert!(rt; whole.is_ok());
+    let wrong = read_calling(alloc, &problem, &PLAIN).err();
+    assert!(rt; wrong == Some(CallingFault::At(1024)));
+    Ok(())
+}
+
+// Which steps are rung, and the calling's text.
+const CALLINGS: [(&[u8], &str); 4] = [
+    (&[], ""),
+    (&[0], "Xp"),
+    (&[2, 0, 1, 2], "KpXpXbKp"),
+    (&[2, 2], "KpKp"),
+];
+
+#[test]
+fn texts_of_several_steps(rt: HostRuntime) -> Result<(), Fail> {
+    let problem = problem_of(rt.alloc(), SPLICED)?;
+    for (steps, want) in CALLINGS {
+        if !problem.has_steps(steps) {
+            return Err(Fail::from(want));
+        }
+        let text = calling_text(rt.alloc(), &problem, steps)?;
+        if text.as_slice() != want.as_bytes() {
+            return Err(Fail::from(want));
+        }
+    }
+    Ok(())
+}
