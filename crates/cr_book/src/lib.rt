@@ -1,4 +1,5 @@
-//! The printed book: callings and books as texts, the summary of a book, found touches in the book's order, and callings read back.
+//! The printed book: callings and books as texts, the summary of a book, found touches in the book's order,
+//! and callings read back.
 #![tactic(auto)]
 
 mod fault;
