@@ -53,9 +53,11 @@ const SPLICED: Draft = Draft {
 };
 
 fn change_of(stage: Stage, places: &[u8]) -> Result<Change, Fail> {
-    Ok(Change::from_places(stage, places)
-        .ok()
-        .ok_or("the places are those of a change")?)
+    Ok(
+        Change::from_places(stage, places)
+            .ok()
+            .ok_or("the places are those of a change")?,
+    )
 }
 
 // Plain hunting, and the last change.
@@ -128,7 +130,8 @@ const FOUND: [&[u8]; 6] = [
     &[0, 1, 0, 1, 0, 1],
 ];
 
-const SORTED: &str = "20 bb\n40 pppp\n60 pbpbpb\n60 bpbpbp\n100 ppbpbppbpb\n120 pppbpppbpppb\ntouches 6\n";
+const SORTED: &str =
+    "20 bb\n40 pppp\n60 pbpbpb\n60 bpbpbp\n100 ppbpbppbpb\n120 pppbpppbpppb\ntouches 6\n";
 
 const BOOK: [&[u8]; 5] = [
     &[1, 1],
