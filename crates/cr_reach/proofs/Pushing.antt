@@ -1,6 +1,6 @@
 -- Rows pushed one after another.
-use Rattle.std.proofs.Common.{◌≡◌, ◌≢◌, ℕ, ◌+◌, ◌<◌, ◌≤◌, Bool, true, false, List, [], ◌∷◌, ◌++◌, length, get_or, take, drop, map, flat_map, All, Contains, refl, sym, ap, ap₂, ◌∙◌, subst, arith, length-append}
-use Rattle.std.proofs.lemmas.List.{append-nil, append_assoc, map-append, take_more, take-append-drop, get_or_default, get_or_append_left}
+use Rattle.std.proofs.Common.{◌≡◌, ◌≢◌, ℕ, ◌+◌, ◌-◌, ◌<◌, ◌≤◌, List, [], ◌∷◌, ◌++◌, length, get_or, take, drop, map, Contains, refl, sym, ap, ap₂, ◌∙◌, subst, arith, length-append}
+use Rattle.std.proofs.lemmas.List.{append-nil, append_assoc, map-append, take_more, take-append-drop, get_or_default, get_or_append_left, get_or-drop}
 use Rattle.std.proofs.lemmas.List.Concat.{flat_map-append}
 use Rattle.cr_row.specs.Rows.{product}
 use Rattle.cr_model.specs.Levels.{new_rows}
@@ -8,7 +8,7 @@ use Rattle.cr_rowset.specs.Stacks.{StackParts}
 use Rattle.cr_rowset.specs.Pushing.{Pushes, StandsAt}
 use Rattle.cr_rowset.specs.declared.pushed.Pushed.{Pushed}
 use Rattle.cr_rowset.specs.declared.pushed.Pushed.TheVariants.{Fresh, Again, Full}
-use Rattle.cr_reach.specs.Spreading.{products, pushed, Overflows, Spreads}
+use Rattle.cr_reach.specs.Spreading.{products, pushed, Overflows}
 use Rattle.cr_reach.proofs.Newly.{new_joined, no_fewer, one_new, one_old}
 
 -- a row that stands at a place is held
@@ -112,3 +112,14 @@ row_too_many old before new others rows index row so_far within at over =
     ∙ ap (λ (xs : List (List ℕ)). xs ++ products others (drop (index + 1) rows)) (products_more others rows index row within at) in
     overflows_more old new (products others (take index rows)) (map (product row) others) (products others (drop (index + 1) rows)) (products others rows) whole
     (subst (λ (s : StackParts). Overflows s (map (product row) others) new) so_far over)
+
+-- a row that was there before anything was pushed
+pub row_read : (old before : StackParts) (more : List (List ℕ)) (start place : ℕ) (row : List ℕ) → before ≡ pushed old more
+    → start ≤ place → place < length old.rows → row ≡ get_or before.rows place [] → row ≡ get_or (drop start old.rows) (place - start) []
+row_read old before more start place row so_far from to is =
+    let sum : start + (place - start) ≡ place = omega arith in
+    is
+    ∙ ap (λ (s : StackParts). get_or s.rows place []) so_far
+    ∙ get_or_append_left old.rows (new_rows old.rows more) [] place to
+    ∙ ap (λ (n : ℕ). get_or old.rows n []) (sym sum)
+    ∙ sym (get_or-drop start old.rows (place - start) [])
