@@ -115,6 +115,7 @@ first_listed table most start depth old new row answer levels some empty pushes 
                     absurd (omega (arith, gone, there));
               };
         }
+
     by : (a : Pushed) → Pushes (record { rows = []; room = most }) row a new → IsListed table most depth new levels start
     by Fresh h = with h.2
     by (Again place) h = let within : place < 0 = h.0.within in absurd (omega arith)

@@ -50,8 +50,14 @@ overflows_more old new xs ys rest all is over =
     let joined : length ((pushed old xs).rows ++ new_rows (pushed old xs).rows ys) ≡ length (old.rows ++ new_rows old.rows (xs ++ ys)) =
     ap (λ (s : StackParts). length s.rows) (pushed_more old xs ys) in
     subst (λ (rows : List (List ℕ)). Overflows old rows new) (sym is) (record {
-      few = omega (arith, few, joined, length-append old.rows (new_rows old.rows (xs ++ ys)), no_fewer old.rows (xs ++ ys) rest,
-          length-append old.rows (new_rows old.rows ((xs ++ ys) ++ rest)));
+      few = omega (
+        arith,
+        few,
+        joined,
+        length-append old.rows (new_rows old.rows (xs ++ ys)),
+        no_fewer old.rows (xs ++ ys) rest,
+        length-append old.rows (new_rows old.rows ((xs ++ ys) ++ rest)),
+      );
       rest = new_rows old.rows xs ++ over.rest;
       kept = over.kept ∙ ap (λ (rows : List (List ℕ)). record { rows = rows; room = old.room })
           (append_assoc old.rows (new_rows old.rows xs) over.rest);
