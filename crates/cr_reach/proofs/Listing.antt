@@ -1,5 +1,5 @@
 -- The levels, listed one after another.
-use Rattle.std.proofs.Common.{◌≡◌, ◌≢◌, ℕ, zero, suc, ◌+◌, ◌-◌, ◌<◌, ◌≤◌, List, [], ◌∷◌, ◌++◌, length, take, drop, map, flat_map, replicate, All, inl, inr, refl, sym, ap, ap₂, ◌∙◌, subst, arith, length-append}
+use Rattle.std.proofs.Common.{◌≡◌, ◌≢◌, ℕ, zero, suc, ◌+◌, ◌-◌, ◌<◌, ◌≤◌, List, [], ◌∷◌, ◌++◌, length, drop, map, replicate, inl, inr, refl, sym, ap, ap₂, ◌∙◌, subst, arith, length-append}
 use Rattle.std.specs.List.{range_with_len}
 use Rattle.std.proofs.Math.Seq.{drop-append_seam}
 use Rattle.std.proofs.lemmas.Bool.{cases_lt, cases_eq}
@@ -15,8 +15,8 @@ use Rattle.cr_rowset.specs.Stacks.{StackParts}
 use Rattle.cr_rowset.specs.Pushing.{Pushes}
 use Rattle.cr_rowset.specs.declared.pushed.Pushed.{Pushed}
 use Rattle.cr_rowset.specs.declared.pushed.Pushed.TheVariants.{Fresh, Again, Full}
-use Rattle.cr_reach.specs.Tables.{ReachParts, levels_up_to, reach_to, reach_table}
-use Rattle.cr_reach.specs.Spreading.{AreOfStage, LeadBack, products, pushed, IsGrown, IsWhole}
+use Rattle.cr_reach.specs.Tables.{levels_up_to, reach_to, reach_table}
+use Rattle.cr_reach.specs.Spreading.{AreOfStage, LeadBack, products, IsGrown, IsWhole}
 use Rattle.cr_reach.specs.Filling.{IsUpTo, IsListed}
 
 -- the equations of levels

@@ -1,5 +1,4 @@
 use Rattle.std.proofs.Common.{◌-◌, length}
-use Rattle.cr_reach.specs.Spreading.{AreOfStage, LeadBack}
 use Rattle.cr_reach.specs.Filling.{IsListed}
 use Rattle.cr_reach.proofs.table.ReachTable.new.Given as goal
 
