@@ -17,7 +17,7 @@ seen rows len = record { rows = take len rows; room = length rows }
 abbrev pub IsAway : List (List ℕ) → ℕ → List ℕ → Type 0
 IsAway rows len row = (i : ℕ) → i < len → get_or rows i [] ≢ row
 
-nowhere : (rows : List (List ℕ)) (len : ℕ) (row : List ℕ) → len ≤ length rows → IsAway rows len row → Contains (take len rows) row → ⊥
+pub nowhere : (rows : List (List ℕ)) (len : ℕ) (row : List ℕ) → len ≤ length rows → IsAway rows len row → Contains (take len rows) row → ⊥
 nowhere rows len row within away stands =
     let k = stands.0 in
     let long : length (take len rows) ≡ len = length-take-le len rows within in

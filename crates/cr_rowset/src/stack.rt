@@ -1,9 +1,9 @@
 //! The rows of a stack, in chains by their keys.
 
-ghost use Rattle.std.specs.Prelude.{◌≡◌, ◌≢◌, ℕ, ◌<◌, ◌≤◌, List, [], length, take, get_or, replicate, IfOk, IfSome, IsNone};
+ghost use Rattle.std.specs.Prelude.{◌≡◌, ◌≢◌, ℕ, ◌<◌, ◌≤◌, List, [], length, take, get_or, replicate, Contains, IfOk, IfSome, IsNone};
 ghost use Rattle.cr_rowset.specs.Stacks.{AllDiffer};
 ghost use Rattle.cr_rowset.specs.Chains.{bucket, bucket_count, IsChained, Seeks};
-ghost use Rattle.cr_rowset.specs.Pushing.{Pushes};
+ghost use Rattle.cr_rowset.specs.Pushing.{Pushes, StandsAt};
 
 use crate::pushed::Pushed;
 use cr_row::{NoMemory, Row, Stage};
@@ -75,6 +75,23 @@ impl RowStack {
         ensures different { AllDiffer self.now.rows }
     {
         self.len as u64
+    }
+
+    /// The row at a place, counted from 0.
+    pub fn row_at(&self, place: u64) -> Row
+        requires { place < length self.now.rows }
+        ensures { result ≡ get_or self.now.rows place [] }
+    {
+        self.rows[place as usize]
+    }
+
+    /// The place of a row, counted from 0. None where it stands nowhere in the stack.
+    pub fn place_of(&self, row: &Row) -> Option<u64>
+        ensures some { IfSome result (λ place. StandsAt self.now.rows row.now place) }
+        ensures none { IsNone result → Contains self.now.rows row.now → ⊥ }
+    {
+        let last = self.buckets[bucket_of(row, self.shift)];
+        place_of(&self.rows, &self.before, self.len, last, row)
     }
 
     /// Puts a row last, unless it stands in the stack already or there is no room for it.

@@ -1,0 +1,5 @@
+pub mod Newly
+pub mod Pushing
+pub mod Backwards
+pub mod Listing
+pub mod Finding
