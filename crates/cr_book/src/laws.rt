@@ -1,13 +1,16 @@
 //! Laws of texts and of the book's order. Each is the contract of a function that does nothing.
 
-ghost use Rattle.std.specs.Prelude.{◌≡◌, ◌≤◌, ◌↔◌, ℕ, List, Contains};
+ghost use Rattle.std.specs.Prelude.{◌≡◌, ◌+◌, ◌≤◌, ◌↔◌, ℕ, List, All, Contains};
 ghost use Rattle.std.specs.List.Sorted.{IsPermutation, IsSorted, IsStrictlySortedBy};
 ghost use Rattle.cr_model.specs.Problems.{ProblemParts};
 ghost use Rattle.cr_model.specs.Callings.{HasSteps};
-ghost use Rattle.cr_model.specs.Nodes.{Covers, times_found};
+ghost use Rattle.cr_model.specs.Touches.{Kept};
+ghost use Rattle.cr_model.specs.Nodes.{Covers, nodes_above, times_found};
 ghost use Rattle.cr_model.specs.Books.{IsBook, book_order, calling_text};
 ghost use Rattle.cr_model.specs.Sound.{IsSound};
 ghost use Rattle.cr_book.specs.Readings.{IsTextOf, IsFirstWrong};
+
+use cr_model::laws::covers_are_counted;
 
 /// Callings of a problem that differ have texts that differ, since its steps differ in letter or mark.
 pub fn callings_differ_in_their_texts()
@@ -32,3 +35,15 @@ pub fn what_is_sorted_is_the_book()
         → ((calling : List ℕ) → Contains callings calling ↔ Covers p found nodes calling)
         → IsBook p found nodes sorted }
 {}
+
+/// Where kept touches were found, and each kept touch as often as it had been found before or stands below nodes,
+/// which is once at most, what was found is in sorted order the book of what had been found and these nodes cover.
+pub fn what_was_found_whole_is_the_book()
+    ensures { (p : ProblemParts) (before nodes found sorted : List (List ℕ)) → All (Kept p) found
+        → ((calling : List ℕ) → Kept p calling →
+            times_found found calling ≡ times_found before calling + nodes_above p nodes calling)
+        → ((calling : List ℕ) → Kept p calling → times_found before calling + nodes_above p nodes calling ≤ 1)
+        → IsPermutation found sorted → IsSorted (book_order p) sorted → IsBook p before nodes sorted }
+{
+    covers_are_counted();
+}

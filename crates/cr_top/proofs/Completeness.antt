@@ -10,7 +10,6 @@ use Rattle.cr_model.specs.declared.file_fault.ProblemFault.{ProblemFault}
 use Rattle.cr_model.specs.ProblemFiles.{ProblemFile, FirstProblemFault}
 use Rattle.cr_top.specs.declared.status.Status.{Status}
 use Rattle.cr_top.specs.declared.status.Status.TheVariants as ended
-use Rattle.cr_top.specs.Plain.{IsPlain}
 use Rattle.cr_top.specs.Endings.{IsUnbuilt, IsBuilt, IsBookOf, IsRefused, IsDue, IsInput, WasTold, Ends}
 
 -- no more was taken than was left
@@ -26,7 +25,7 @@ the_input : (left : Option (List ℕ)) (told input : List ℕ) → left ≡ Some
 the_input None told input is was = absurd (cc)
 the_input (Some xs) told input is was = let same : xs ≡ told = cc in sym same ∙ was
 
--- the input is no longer than is read, and a problem that the search takes
+-- the input is no longer than is read, and a problem's file
 abbrev pub HasBook : List ℕ → Type 0
 HasBook input = (length input ≤ 2 ^ 40) × ((text : List ℕ) × IsBookOf input text)
 
@@ -78,29 +77,23 @@ no_write_fault took left s_faults s_old s_new grew k_faults k_old k_new writes e
 no_write_fault took left s_faults s_old s_new grew k_faults k_old k_new writes ended.TooLong ends is = absurd (cc)
 no_write_fault took left s_faults s_old s_new grew k_faults k_old k_new writes ended.Unbuilt ends is = absurd (cc)
 
--- bytes are the file of one problem at most, they have one first fault at most, and never both
-module _ (one : (bytes : List ℕ) (p q : ProblemParts) → ProblemFile bytes p → ProblemFile bytes q → p ≡ q)
-    (one_fault : (bytes : List ℕ) (a b : ProblemFault) → FirstProblemFault bytes a → FirstProblemFault bytes b → a ≡ b)
+-- bytes have one first fault at most, and none where they are a problem's file
+module _ (one_fault : (bytes : List ℕ) (a b : ProblemFault) → FirstProblemFault bytes a → FirstProblemFault bytes b → a ≡ b)
     (never : (bytes : List ℕ) (p : ProblemParts) (fault : ProblemFault) → ProblemFile bytes p → FirstProblemFault bytes fault → ⊥)
     (input : List ℕ) where
   -- the search takes an input or leaves it
   booked_and_unbuilt : HasBook input → IsUnbuilt input → ⊥
-  booked_and_unbuilt has (inl checkpoint) = has.1.1.no_checkpoint checkpoint
-  booked_and_unbuilt has (inr other) =
-      other.2 (subst IsPlain (one input has.1.1.problem other.0 has.1.1.file other.1) has.1.1.plain)
+  booked_and_unbuilt has checkpoint = has.1.1.no_checkpoint checkpoint
 
   -- an input is a problem or has a fault
   booked_and_refused : (fault : ProblemFault) → HasBook input → IsRefused input fault → ⊥
   booked_and_refused fault has refused = never input has.1.1.problem fault has.1.1.file refused.1
 
   unbuilt_and_refused : (fault : ProblemFault) → IsUnbuilt input → IsRefused input fault → ⊥
-  unbuilt_and_refused fault (inl checkpoint) refused = refused.0 checkpoint
-  unbuilt_and_refused fault (inr other) refused = never input other.0 fault other.1 refused.1
+  unbuilt_and_refused fault checkpoint refused = refused.0 checkpoint
 
   built_and_unbuilt : IsBuilt input → IsUnbuilt input → ⊥
-  built_and_unbuilt built (inl checkpoint) = built.no_checkpoint checkpoint
-  built_and_unbuilt built (inr other) =
-      other.2 (subst IsPlain (one input built.problem other.0 built.file other.1) built.plain)
+  built_and_unbuilt built checkpoint = built.no_checkpoint checkpoint
 
   -- what the search takes ends with its book, unless a write failed
   pub finishes : (status : Status) → IsBuilt input → (status ≡ ended.WriteFault → ⊥) → Says input status

@@ -1,7 +1,4 @@
-pub mod PlainLeads
-pub mod PlainTouches
-pub mod PlainBooks
+pub mod Searching
 pub mod Steps
 pub mod Completeness
 pub mod Noting
-pub mod Differing

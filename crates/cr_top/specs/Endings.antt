@@ -13,32 +13,26 @@ use Rattle.cr_model.specs.ProblemFiles.{ProblemFile, FirstProblemFault}
 use Rattle.cr_model.specs.declared.file_fault.ProblemFault.{ProblemFault}
 use Rattle.cr_top.specs.declared.status.Status.{Status}
 use Rattle.cr_top.specs.declared.status.Status.TheVariants as ended
-use Rattle.cr_top.specs.Plain.{IsPlain}
 
 -- the bytes begin as a checkpoint
 abbrev pub IsCheckpoint : List ℕ → Type 0
 IsCheckpoint input = starts_with nat_eq input (codes "ringsearch checkpoint ") ≡ true
 
--- the search does not take the input yet: it begins as a checkpoint, or is a problem of more than one
--- method's plain leads
+-- the search does not take the input yet: it begins as a checkpoint
 abbrev pub IsUnbuilt : List ℕ → Type 0
-IsUnbuilt input = IsCheckpoint input ⊎ ((p : ProblemParts) × ProblemFile input p × (IsPlain p → ⊥))
+IsUnbuilt input = IsCheckpoint input
 
--- the search takes the input: it is a problem of one method's plain leads, no longer than is read, and
--- does not begin as a checkpoint
+-- the search takes the input: it is a problem's file, no longer than is read, and does not begin as a checkpoint
 pub record IsBuilt (input : List ℕ) : Type 0 where
   pub problem : ProblemParts
   pub file : ProblemFile input problem
-  pub plain : IsPlain problem
   pub short : length input ≤ 2 ^ 40
   pub no_checkpoint : IsCheckpoint input → ⊥
 
--- the input is a problem that the search takes, and this is the text of its book, with nothing found before
--- and the root alone open
+-- the input is a problem's file, and this is the text of its book, with nothing found before and the root alone open
 pub record IsBookOf (input text : List ℕ) : Type 0 where
   pub problem : ProblemParts
   pub file : ProblemFile input problem
-  pub plain : IsPlain problem
   pub no_checkpoint : IsCheckpoint input → ⊥
   pub book : List (List ℕ)
   pub is_book : IsBook problem [] ([] ∷ []) book
@@ -48,7 +42,7 @@ pub record IsBookOf (input text : List ℕ) : Type 0 where
 abbrev pub IsRefused : List ℕ → ProblemFault → Type 0
 IsRefused input fault = (IsCheckpoint input → ⊥) × FirstProblemFault input fault
 
--- the refusal that an input is due: it is no problem, or none that the search takes, or longer than is read
+-- the refusal that an input is due: it is no problem, or begins as a checkpoint, or is longer than is read
 abbrev pub IsDue : List ℕ → Status → Type 0
 IsDue input (ended.Problem fault) = (length input ≤ 2 ^ 40) × IsRefused input fault
 IsDue input ended.Unbuilt = (length input ≤ 2 ^ 40) × IsUnbuilt input
@@ -102,7 +96,7 @@ MakesText input (Err ended.TooLong) = ⊥
 -- Finished: the source was read to its end, and the sink grew by the text of the book of what was left in it.
 -- WriteFault: the same, but for a front of the text, and the sink's count of faults rose.
 -- Problem, Unbuilt: the source was read to its end, and what was left in it is no problem for this reason,
--- or none that the search takes.
+-- or begins as a checkpoint.
 -- ReadFault: the source's count of faults rose. TooLong: more than 2^40 bytes were taken, and on no other status.
 -- On every status but Finished and WriteFault nothing was written.
 abbrev pub Ends : {S K : Type 0} → (S → S → List ℕ → Type 0) → (S → Option (List ℕ)) → (S → ℕ) → S → S

