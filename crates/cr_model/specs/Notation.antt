@@ -4,6 +4,7 @@ use Rattle.std.specs.Prelude.{◌++◌, length, map, drop, reverse}
 use Rattle.std.specs.List.{range_with_len}
 use Rattle.cr_row.specs.Rows.{Places, IsNext}
 use Rattle.cr_row.specs.Symbols.{symbol_of}
+use Rattle.cr_model.specs.Limits.{most_lead_changes}
 
 -- what a byte stands for. The end of a text counts as one more sign
 pub data Sign : Type 0 where
@@ -122,8 +123,8 @@ IsSymmetric n signs changes =
 abbrev pub StandsFor : ℕ → List ℕ → List Places → Type 0
 StandsFor n text changes = IsPlain n (signs_of text) changes ⊎ IsSymmetric n (signs_of text) changes
 
--- the text spells these changes, of which there are 1 to 128
+-- the text spells these changes, of which there are as many as a lead may have
 pub record Spells (n : ℕ) (text : List ℕ) (changes : List Places) : Type 0 where
   pub stands : StandsFor n text changes
   pub at_least : 1 ≤ length changes
-  pub at_most : length changes ≤ 128
+  pub at_most : length changes ≤ most_lead_changes

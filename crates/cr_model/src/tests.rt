@@ -1,4 +1,4 @@
-use super::Cell::{Any, Bell, Run};
+use super::Cell::{Bell, Run};
 use super::*;
 use cr_row::{Change, Stage};
 use std::fmt::Write;
@@ -102,154 +102,6 @@ fn problem(rt: &HostRuntime, draft: &Draft) -> Result<Problem, Fail> {
     }
 }
 
-// Whether the parts have this fault, or none.
-fn tell(
-    rt: &HostRuntime,
-    name: &'static str,
-    draft: &Draft,
-    wrong: Option<PartFault>,
-) -> Result<(), Fail> {
-    if made(rt, draft)?.err() != wrong {
-        return Err(Fail::from(name));
-    }
-    Ok(())
-}
-
-const P: LeadRow = LeadRow(0, b'p', 2);
-
-const B: LeadRow = LeadRow(0, b'b', 2);
-
-const C: LeadRow = LeadRow(0, b'c', 2);
-
-const LEADS: [(&str, &[u8], &[LeadRow], Option<PartFault>); 15] = [
-    ("no letter", b"", GOOD, Some(PartFault::Letters(0))),
-    ("a small letter", b"a", GOOD, Some(PartFault::Letters(0))),
-    ("a letter again", b"AbA", GOOD, Some(PartFault::Letters(1))),
-    (
-        "nine letters",
-        b"ABCDEFGHI",
-        GOOD,
-        Some(PartFault::Letters(8)),
-    ),
-    ("no lead", b"A", &[], Some(PartFault::Leads(0))),
-    ("no plain lead", b"A", &[B], Some(PartFault::Leads(0))),
-    (
-        "no change",
-        b"A",
-        &[LeadRow(0, b'p', 0)],
-        Some(PartFault::Leads(0)),
-    ),
-    ("128 changes", b"A", &[LeadRow(0, b'p', 128)], None),
-    (
-        "129 changes",
-        b"A",
-        &[LeadRow(0, b'p', 129)],
-        Some(PartFault::Leads(0)),
-    ),
-    ("a mark again", b"A", &[P, B, B], Some(PartFault::Leads(2))),
-    (
-        "marks that fall",
-        b"A",
-        &[P, C, B],
-        Some(PartFault::Leads(2)),
-    ),
-    (
-        "a capital mark",
-        b"A",
-        &[P, LeadRow(0, b'B', 2)],
-        Some(PartFault::Leads(1)),
-    ),
-    (
-        "a method too many",
-        b"A",
-        &[P, LeadRow(1, b'p', 2)],
-        Some(PartFault::Leads(1)),
-    ),
-    (
-        "a method left out",
-        b"ABC",
-        &[P, LeadRow(2, b'p', 2)],
-        Some(PartFault::Leads(1)),
-    ),
-    (
-        "a method without leads",
-        b"AB",
-        &[P, B],
-        Some(PartFault::Leads(2)),
-    ),
-];
-
-#[test]
-fn faults_of_letters_and_leads(rt: HostRuntime) -> Result<(), Fail> {
-    for (name, letters, leads, wrong) in LEADS {
-        tell(
-            &rt,
-            name,
-            &Draft {
-                letters,
-                leads,
-                ..BASE
-            },
-            wrong,
-        )?;
-    }
-    let leads = leads_of(&rt, stage_of(6)?, GOOD)?;
-    let query = query_of(&rt, &BASE)?;
-    let made = Problem::new(stage_of(4)?, b"A".to_vec(rt.alloc())?, leads, query);
-    assert_eq!(rt;
-        made.err(),
-        Some(PartFault::Leads(0)),
-        "changes of another stage"
-    );
-    Ok(())
-}
-
-// Of leads of one change: the stage, the least and the greatest length, and the parts.
-const LENGTHS: [(&str, u8, i64, i64, i64, Option<PartFault>); 11] = [
-    ("least length 0", 4, 0, 24, 1, Some(PartFault::Range(0, 24))),
-    (
-        "the wrong way round",
-        4,
-        2,
-        1,
-        1,
-        Some(PartFault::Range(2, 1)),
-    ),
-    (
-        "a length of 12,001",
-        4,
-        1,
-        12_001,
-        1,
-        Some(PartFault::Range(1, 12_001)),
-    ),
-    ("no part", 4, 1, 24, 0, Some(PartFault::Parts(0))),
-    ("64 parts", 4, 1, 24, 64, None),
-    ("65 parts", 4, 1, 24, 65, Some(PartFault::Parts(65))),
-    ("-1 parts", 4, 1, 24, -1, Some(PartFault::Parts(-1))),
-    ("1,024 leads", 8, 1, 1_024, 1, None),
-    ("1,025 leads", 8, 1, 1_025, 1, Some(PartFault::Deep(1_025))),
-    ("720 leads", 6, 1, 12_000, 1, None),
-    ("5,040 leads", 7, 1, 12_000, 1, Some(PartFault::Deep(5_040))),
-];
-
-#[test]
-fn faults_of_lengths(rt: HostRuntime) -> Result<(), Fail> {
-    for (name, stage, min, max, parts, wrong) in LENGTHS {
-        let leads = &[LeadRow(0, b'p', 1)];
-        let draft = Draft {
-            stage,
-            leads,
-            min,
-            max,
-            parts,
-            ..BASE
-        };
-        tell(&rt, name, &draft, wrong)?;
-    }
-    Ok(())
-}
-
 const BOBS: Count = Count {
     mark: b'b',
     min: 0,
@@ -258,166 +110,84 @@ const BOBS: Count = Count {
 
 const SINGLES: Count = Count { mark: b's', ..BOBS };
 
-const BELOW: Count = Count { min: -1, ..BOBS };
-
-const TURNED: Count = Count {
-    min: 2,
-    max: 1,
-    ..BOBS
-};
-
-const ABOVE: Count = Count {
-    max: 12_001,
-    ..BOBS
-};
-
-const COUNTS: [(&str, &[Count], Option<PartFault>); 6] = [
-    ("sixteen", &[BOBS; 16], None),
-    (
-        "seventeen",
-        &[BOBS; 17],
-        Some(PartFault::Count(CountAt::Mark(16))),
-    ),
-    (
-        "of no mark",
-        &[BOBS, SINGLES],
-        Some(PartFault::Count(CountAt::Mark(1))),
-    ),
-    (
-        "from -1",
-        &[BELOW],
-        Some(PartFault::Count(CountAt::Mark(0))),
-    ),
-    (
-        "the wrong way round",
-        &[TURNED],
-        Some(PartFault::Count(CountAt::Mark(0))),
-    ),
-    (
-        "to 12,001",
-        &[ABOVE],
-        Some(PartFault::Count(CountAt::Mark(0))),
-    ),
-];
-
-const OF_A: MethodCount = MethodCount {
-    letter: b'A',
+const OF_B: MethodCount = MethodCount {
+    letter: b'B',
     min: 0,
     max: 12_000,
 };
 
-const OF_B: MethodCount = MethodCount {
-    letter: b'B',
-    ..OF_A
-};
-
-const A_TURNED: MethodCount = MethodCount {
-    min: 2,
-    max: 1,
-    ..OF_A
-};
-
-const METHOD_COUNTS: [(&str, &[MethodCount], Option<PartFault>); 4] = [
-    ("sixteen", &[OF_A; 16], None),
+// At each limit and one above it: the stage, the changes of the one lead, the greatest length, the parts, how many
+// counts and how many patterns, and the fault.
+const EDGES: [(&str, u8, usize, i64, i64, usize, usize, Option<PartFault>); 8] = [
+    ("128 changes", 4, 128, 24, 1, 0, 0, None),
     (
-        "seventeen",
-        &[OF_A; 17],
-        Some(PartFault::Count(CountAt::Method(16))),
+        "129 changes",
+        4,
+        129,
+        24,
+        1,
+        0,
+        0,
+        Some(PartFault::Leads(0)),
+    ),
+    ("1,024 leads, 64 parts", 8, 1, 1_024, 64, 0, 0, None),
+    (
+        "1,025 leads",
+        8,
+        1,
+        1_025,
+        1,
+        0,
+        0,
+        Some(PartFault::Deep(1_025)),
+    ),
+    ("65 parts", 4, 1, 24, 65, 0, 0, Some(PartFault::Parts(65))),
+    ("16 counts, 32 patterns", 4, 1, 24, 1, 16, 32, None),
+    (
+        "17 counts",
+        4,
+        1,
+        24,
+        1,
+        17,
+        0,
+        Some(PartFault::Count(CountAt::Mark(16))),
     ),
     (
-        "of no letter",
-        &[OF_A, OF_B],
-        Some(PartFault::Count(CountAt::Method(1))),
-    ),
-    (
-        "the wrong way round",
-        &[A_TURNED],
-        Some(PartFault::Count(CountAt::Method(0))),
-    ),
-];
-
-#[test]
-fn faults_of_counts(rt: HostRuntime) -> Result<(), Fail> {
-    for (name, counts, wrong) in COUNTS {
-        tell(&rt, name, &Draft { counts, ..BASE }, wrong)?;
-    }
-    for (name, method_counts, wrong) in METHOD_COUNTS {
-        tell(
-            &rt,
-            name,
-            &Draft {
-                method_counts,
-                ..BASE
-            },
-            wrong,
-        )?;
-    }
-    Ok(())
-}
-
-// The cells, and how many patterns have them.
-const PATTERNS: [(&str, &[Cell], usize, Option<PartFault>); 11] = [
-    ("thirty-two", &[Any, Bell(4), Run], 32, None),
-    (
-        "thirty-three",
-        &[Any, Bell(4), Run],
+        "33 patterns",
+        4,
+        1,
+        24,
+        1,
+        0,
         33,
         Some(PartFault::Pattern(32)),
     ),
-    ("a cell a bell", &[Any, Any, Any, Any], 1, None),
-    ("and a run", &[Any, Any, Any, Any, Run], 1, None),
-    ("a run alone", &[Run], 1, None),
-    (
-        "a bell above the stage",
-        &[Bell(5), Run],
-        2,
-        Some(PartFault::Pattern(0)),
-    ),
-    (
-        "a bell twice",
-        &[Bell(2), Run, Bell(2)],
-        1,
-        Some(PartFault::Pattern(0)),
-    ),
-    (
-        "two runs",
-        &[Run, Bell(2), Run],
-        1,
-        Some(PartFault::Pattern(0)),
-    ),
-    (
-        "too few cells",
-        &[Any, Any, Any],
-        1,
-        Some(PartFault::Pattern(0)),
-    ),
-    (
-        "too many cells",
-        &[Any, Any, Any, Any, Any],
-        1,
-        Some(PartFault::Pattern(0)),
-    ),
-    (
-        "too many and a run",
-        &[Any, Any, Any, Any, Any, Run],
-        1,
-        Some(PartFault::Pattern(0)),
-    ),
 ];
 
+// As many counts of plain leads.
+const PLAIN: Count = Count { mark: b'p', ..BOBS };
+
 #[test]
-fn faults_of_patterns(rt: HostRuntime) -> Result<(), Fail> {
-    for (name, cells, patterns, wrong) in PATTERNS {
-        tell(
+fn limits_and_one_above(rt: HostRuntime) -> Result<(), Fail> {
+    for (name, stage, changes, max, parts, counts, patterns, wrong) in EDGES {
+        let stage = stage_of(stage)?;
+        let leads = leads_of(&rt, stage, &[LeadRow(0, b'p', changes)])?;
+        let mut query = query_of(
             &rt,
-            name,
             &Draft {
-                cells,
+                max,
+                parts,
+                cells: &[Run],
                 patterns,
                 ..BASE
             },
-            wrong,
         )?;
+        query.counts = vec![in rt.alloc(); PLAIN; counts]?;
+        let made = Problem::new(stage, b"A".to_vec(rt.alloc())?, leads, query);
+        if made.err() != wrong {
+            return Err(Fail::from(name));
+        }
     }
     Ok(())
 }
@@ -503,7 +273,8 @@ fn the_first_fault_comes_first(rt: HostRuntime) -> Result<(), Fail> {
         assert_eq!(rt; made(&rt, &draft)?.err(), Some(*wrong), "check {step}");
         draft = mended(draft, step);
     }
-    tell(&rt, "all is mended", &draft, None)
+    assert!(rt; made(&rt, &draft)?.is_ok(), "all is mended");
+    Ok(())
 }
 
 const TWO_PARTS: Draft = Draft {

@@ -5,6 +5,7 @@ use Rattle.cr_row.specs.Rows.{Places}
 use Rattle.cr_model.specs.declared.notation.NotationFault.{NotationFault}
 use Rattle.cr_model.specs.declared.notation.NotationFault.TheVariants.{Symbol, Above, Order, Gap, CrossOnOdd}
 use Rattle.cr_model.specs.declared.notation.NotationFault.TheVariants.{Dot, EmptyBlock, SecondComma, Long}
+use Rattle.cr_model.specs.Limits.{most_lead_changes}
 use Rattle.cr_model.specs.Notation.{Sign, cross, place, dot, comma, other, end_of_text, is_blank, sign_of}
 use Rattle.cr_model.specs.Notation.{group, crossing, last_named, change_of, mirrored, IsNamed}
 use Rattle.cr_notation.specs.declared.reader.Last.{Last}
@@ -144,10 +145,10 @@ unfoldable pub read_from : ℕ → State → ℕ → List ℕ → Result (List P
 read_from n s k [] = end_step n s k
 read_from n s k (byte ∷ bytes) = then_all (byte_step n s k byte) (λ after. read_from n after (k + 1) bytes)
 
--- no more than 128 changes
+-- no more changes than a lead may have
 abbrev pub limited : ℕ → Result (List Places) NotationFault → Result (List Places) NotationFault
 limited k (Err f) = Err f
-limited k (Ok changes) = cond (nat_lt 128 (length changes)) (Err (Long k)) (Ok changes)
+limited k (Ok changes) = cond (nat_lt most_lead_changes (length changes)) (Err (Long k)) (Ok changes)
 
 -- the whole text
 unfoldable pub read_all : ℕ → List ℕ → Result (List Places) NotationFault

@@ -4,12 +4,10 @@ ghost use Rattle.std.specs.Prelude.{◌≡◌, ◌++◌, [], ◌∷◌, OnOk};
 ghost use Rattle.cr_model.specs.Notation.{mirrored};
 ghost use Rattle.cr_notation.specs.Reading.{kept};
 
+use cr_model::limits::MOST_LEAD_CHANGES;
 use cr_row::Change;
 use std::alloc::{AllocError, Global};
 use std::marker::Model;
-
-/// The most changes that a text may spell.
-pub const MOST: usize = 128;
 
 /// The changes of a list, up to the first that is too many. Contracts see their list.
 #[derive(Drop)]
@@ -18,14 +16,15 @@ pub struct Kept {
 }
 
 impl Model for Kept {
-    ghost use Rattle.std.specs.Prelude.{List, ◌≤◌, length};
+    ghost use Rattle.std.specs.Prelude.{List, ◌+◌, ◌≤◌, length};
+    ghost use Rattle.cr_model.specs.Limits.{most_lead_changes};
     ghost use Rattle.cr_row.specs.Rows.{Places};
 
     ghost Value = { List Places };
 
     ghost view = { λ k. k.changes.items };
 
-    ghost invariant = { λ k. length k.changes.items ≤ 129 };
+    ghost invariant = { λ k. length k.changes.items ≤ most_lead_changes + 1 };
 }
 
 #[tactic(auto, using(crate::proofs::Keeping::all_kept, crate::proofs::Keeping::full_kept))]
@@ -42,7 +41,7 @@ impl Kept {
     pub fn add(&mut self, change: Change) -> Result<(), AllocError>
         ensures { OnOk result (kept self.new ≡ kept (self.old ++ change ∷ [])) }
     {
-        if self.changes.len() <= MOST {
+        if self.changes.len() <= MOST_LEAD_CHANGES {
             self.changes.push(change)?;
         }
         Ok(())

@@ -2,6 +2,7 @@
 
 ghost use Rattle.std.specs.Prelude.{◌≡◌, ◌⊎◌, ℕ, ◌≤◌, List, length, All};
 ghost use Rattle.cr_row.specs.Rows.{Places, IsChange};
+ghost use Rattle.cr_model.specs.Limits.{most_lead_changes};
 ghost use Rattle.cr_model.specs.Notation.{Spells};
 ghost use Rattle.cr_model.specs.NotationTexts.{canonical_text};
 ghost use Rattle.cr_model.specs.NotationFaults.{FirstFault};
@@ -39,6 +40,6 @@ pub fn spelled_changes_are_changes()
 
 /// The canonical text of 1 to 128 changes of one stage spells them.
 pub fn a_canonical_text_spells_its_changes()
-    ensures { (n : ℕ) (changes : List Places) → n ≤ 16 → 1 ≤ length changes → length changes ≤ 128 →
+    ensures { (n : ℕ) (changes : List Places) → n ≤ 16 → 1 ≤ length changes → length changes ≤ most_lead_changes →
         All (λ change. change.stage ≡ n) changes → All IsChange changes → Spells n (canonical_text changes) changes }
 {}

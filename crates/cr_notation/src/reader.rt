@@ -12,11 +12,12 @@ ghost use Rattle.cr_notation.specs.Reading.{fresh, first_named, more_named, plac
 ghost use Rattle.cr_notation.specs.Reading.{dot_step, comma_step, whole, end_step, byte_step, limited, read_all, kept};
 ghost use Rattle.cr_notation.specs.Refining.{state_of, IsAdded, IsShut, IsReady, Steps, Gives};
 
-use crate::kept::{Kept, MOST};
+use crate::kept::Kept;
 use crate::laws::{
     a_text_has_one_first_fault, a_text_spells_one_list, no_text_is_taken_and_refused,
 };
 use cr_model::NotationFault;
+use cr_model::limits::MOST_LEAD_CHANGES;
 use cr_row::{Change, Stage, bell_of};
 use std::alloc::{AllocError, Global};
 
@@ -247,7 +248,7 @@ impl Reader {
             Last::Cross | Last::Group => {}
         }
         let changes = self.into_whole()?;
-        if changes.len() > MOST {
+        if changes.len() > MOST_LEAD_CHANGES {
             return Err(NotationFault::Long(at));
         }
         Ok(changes)

@@ -1,5 +1,6 @@
 use super::*;
 use cr_model::NotationFault;
+use cr_model::limits::MOST_LEAD_CHANGES;
 use cr_row::{Change, Row, Stage, symbol};
 use std::alloc::{AllocError, Global};
 use std::test::*;
@@ -181,7 +182,7 @@ fn at_most_128_changes(rt: HostRuntime) {
 fn rewritten(alloc: Global, stage: u8, text: &str) -> Result<String, &'static str> {
     let stage = Stage::new(stage).ok_or("no stage")?;
     let changes = read_notation(alloc, stage, text).ok().ok_or("no text")?;
-    if changes.is_empty() || changes.len() > 128 {
+    if changes.is_empty() || changes.len() > MOST_LEAD_CHANGES {
         return Err("no number of changes");
     }
     if changes.iter().any(|change| change.stage() != stage) {

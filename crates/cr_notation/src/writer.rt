@@ -5,6 +5,7 @@ ghost use Rattle.cr_row.specs.Rows.{IsChange};
 ghost use Rattle.cr_row.specs.Symbols.{symbol_of};
 ghost use Rattle.cr_notation.specs.Writing.{has_places, dot_if};
 ghost use Rattle.cr_model.specs.Notation.{Spells};
+ghost use Rattle.cr_model.specs.Limits.{most_lead_changes};
 ghost use Rattle.cr_model.specs.NotationTexts.{places_text, canonical_text};
 
 use cr_row::{Change, NoMemory, Stage, symbol};
@@ -14,7 +15,7 @@ use std::alloc::Global;
 /// every other names all its places, and one dot stands between two changes with places and nowhere else.
 pub fn write_notation(alloc: Global, stage: Stage, changes: &[Change]) -> Result<String, NoMemory>
     requires at_least { 1 ≤ length changes.now }
-    requires at_most { length changes.now ≤ 128 }
+    requires at_most { length changes.now ≤ most_lead_changes }
     requires stages { All (λ change. change.stage ≡ stage) changes.now }
     ensures text { IfOk result (λ text. string_bytes text ≡ canonical_text changes.now) }
     ensures spells { IfOk result (λ text. Spells stage (string_bytes text) changes.now) }

@@ -14,6 +14,7 @@ use crate::keys::stands_in;
 use crate::letters::byte_of;
 use crate::tunes::{Tune, Tunes};
 use cr_model::ProblemFault;
+use cr_model::limits::MOST_LEAD_CHANGES;
 use cr_row::Change;
 
 // A call, by its index.
@@ -68,7 +69,7 @@ fn over_is_right(file: &File, call: usize) -> bool
     ensures { IsTrue result ↔ OverIsRight file.now call }
 {
     match over_of(file, call) {
-        Some(over) => 0 <= over && over <= 128,
+        Some(over) => 0 <= over && over <= MOST_LEAD_CHANGES as i64,
         None => true,
     }
 }
@@ -105,7 +106,7 @@ fn wrong_mark(file: &File) -> Option<u64>
 
 /// The changes of a tune, by its index.
 #[tactic(auto, using(crate::proofs::CallFacts::tune_is))]
-pub fn changes_of(tunes: &[Tune], index: usize) -> &[Change]
+pub fn tune_changes(tunes: &[Tune], index: usize) -> &[Change]
     requires { index < length tunes.now }
     ensures { result.now ≡ tune_at tunes.now index }
 {
@@ -121,7 +122,7 @@ pub fn replaced(file: &File, tunes: &Tunes, call: usize) -> u64
 {
     match over_of(file, call) {
         Some(over) => over.unsigned_abs(),
-        None => changes_of(&tunes.calls, call).len() as u64,
+        None => tune_changes(&tunes.calls, call).len() as u64,
     }
 }
 
@@ -134,9 +135,10 @@ fn fits(file: &File, tunes: &Tunes, call: usize, method: usize) -> bool
     ensures { IsTrue result ↔ Fits file.now tunes.now call method }
 {
     let over = replaced(file, tunes, call);
-    let rung = changes_of(&tunes.methods, method).len() as u64;
-    let added = changes_of(&tunes.calls, call).len() as u64;
-    over <= rung && added <= 128 && rung - over <= 128 - added
+    let rung = tune_changes(&tunes.methods, method).len() as u64;
+    let added = tune_changes(&tunes.calls, call).len() as u64;
+    let most = MOST_LEAD_CHANGES as u64;
+    over <= rung && added <= most && rung - over <= most - added
 }
 
 // Whether a call fits a method, if it is for it.

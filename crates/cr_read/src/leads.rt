@@ -6,7 +6,7 @@ ghost use Rattle.cr_model.specs.ProblemFiles.{leads_of_method, leads_of, lead_fr
 ghost use Rattle.cr_model.specs.Right.{plain};
 ghost use Rattle.cr_read.specs.Reading.{IsTuned};
 
-use crate::calls::{changes_of, is_for, mark_of, replaced};
+use crate::calls::{is_for, mark_of, replaced, tune_changes};
 use crate::file_parts::File;
 use crate::tunes::Tunes;
 use cr_model::{Lead, Step};
@@ -55,10 +55,10 @@ fn called_changes(
     requires tuned { IsTuned file.now tunes.now }
     ensures { IfOk result (λ changes. changes.items ≡ called_tune file.now tunes.now call method) }
 {
-    let rung = changes_of(&tunes.methods, method);
+    let rung = tune_changes(&tunes.methods, method);
     let over = replaced(file, tunes, call).min(rung.len() as u64) as usize;
     let mut changes = rung[..rung.len() - over].to_vec(alloc)?;
-    changes.extend_from_slice(changes_of(&tunes.calls, call))?;
+    changes.extend_from_slice(tune_changes(&tunes.calls, call))?;
     Ok(changes)
 }
 
@@ -67,7 +67,7 @@ fn plain_lead(alloc: Global, tunes: &Tunes, method: usize) -> Result<Lead, Alloc
     requires there { method < length tunes.now.methods }
     ensures { IfOk result (λ lead. lead ≡ lead_from method plain (tune_at tunes.now.methods method)) }
 {
-    let changes = changes_of(&tunes.methods, method).to_vec(alloc)?;
+    let changes = tune_changes(&tunes.methods, method).to_vec(alloc)?;
     Ok(Lead {
         step: Step {
             method: method as u8,

@@ -7,6 +7,7 @@ ghost use Rattle.cr_model.specs.ProblemFiles.{byte_of, letters_of, StagePasses, 
 
 use crate::file_parts::File;
 use cr_model::ProblemFault;
+use cr_model::limits::MOST_METHODS;
 use cr_row::Stage;
 use std::alloc::{AllocError, Global};
 
@@ -60,7 +61,10 @@ fn letter_is_right(letters: &[u8], index: usize) -> bool
     requires { index < length letters.now }
     ensures { IsTrue result ↔ LetterIsRight letters.now index }
 {
-    index < 8 && b'A' <= letters[index] && letters[index] <= b'Z' && is_new(letters, index)
+    index < MOST_METHODS
+        && b'A' <= letters[index]
+        && letters[index] <= b'Z'
+        && is_new(letters, index)
 }
 
 // The first letter that is wrong.

@@ -4,114 +4,122 @@ use super::ringsearch;
 use cr_io::{MemSink, MemSource};
 use std::test::Fail;
 
-// Which case it is, the stage, the method, the least and the greatest length, and the book.
-const BOOKS: [(&str, u8, &str, u32, u32, &str); 21] = [
+const MINIMUS_LEADS: &str = "stage = 4
+[[method]]
+letter = \"A\"
+notation = \"x14x14,12\"
+";
+
+const DOUBLES_LEADS: &str = "stage = 5
+[[method]]
+letter = \"A\"
+notation = \"5.1.5.1.5,125\"
+[[call]]
+mark = \"b\"
+notation = \"145\"
+";
+
+const SPLICED: &str = "stage = 4
+[[method]]
+letter = \"A\"
+notation = \"x14x14,12\"
+[[method]]
+letter = \"C\"
+notation = \"x14x14,12\"
+[query]
+min = 24
+max = 24
+";
+
+const ALL_DOUBLES: &str =
+    "20 bb\n40 pppp\n60 pbpbpb\n100 ppbpbppbpb\n120 pppbpppbpppb\ntouches 5\n";
+
+const ALL_SPLICED: &str = "24 ApApAp\n24 ApApCp\n24 ApCpCp\n24 CpCpCp\ntouches 4\n";
+
+// Which case it is, how its file begins and ends, and the book.
+const BOOKS: [(&str, &str, &str, &str); 21] = [
+    ("plain leads", MINIMUS_LEADS, "[query]\nmin = 1\nmax = 24\n", "24 ppp\ntouches 1\n"),
+    ("plain leads, above max", MINIMUS_LEADS, "[query]\nmin = 1\nmax = 23\n", "touches 0\n"),
     (
-        "Plain Bob Minimus",
-        4,
-        "x14x14,12",
-        1,
-        24,
-        "24 ppp\ntouches 1\n",
+        "a bob lead that comes round",
+        MINIMUS_LEADS,
+        "[[call]]\nmark = \"b\"\nnotation = \"14\"\n[query]\nmin = 1\nmax = 24\n",
+        "8 b\n24 ppp\ntouches 2\n",
     ),
     (
-        "as long as min",
-        4,
-        "x14x14,12",
-        24,
-        12_000,
+        "a call that repeats a row",
+        MINIMUS_LEADS,
+        "[[call]]\nmark = \"s\"\nnotation = \"1234\"\n[query]\nmin = 1\nmax = 24\n",
         "24 ppp\ntouches 1\n",
     ),
-    ("above max", 4, "x14x14,12", 1, 23, "touches 0\n"),
-    ("below min", 4, "x14x14,12", 25, 12_000, "touches 0\n"),
+    ("bobs", DOUBLES_LEADS, "[query]\nmin = 1\nmax = 120\n", ALL_DOUBLES),
     (
-        "Plain Bob Doubles",
-        5,
-        "5.1.5.1.5,125",
-        1,
-        120,
+        "two parts",
+        DOUBLES_LEADS,
+        "[query]\nmin = 1\nmax = 120\nparts = 2\n",
+        "20 bb\n40 pppp\n100 ppbpbppbpb\ntouches 3\n",
+    ),
+    (
+        "three parts",
+        DOUBLES_LEADS,
+        "[query]\nmin = 1\nmax = 120\nparts = 3\n",
+        "60 pbpbpb\n120 pppbpppbpppb\ntouches 2\n",
+    ),
+    (
+        "four parts",
+        DOUBLES_LEADS,
+        "[query]\nmin = 1\nmax = 120\nparts = 4\n",
         "40 pppp\ntouches 1\n",
     ),
     (
+        "no bob",
+        DOUBLES_LEADS,
+        "[query]\nmin = 1\nmax = 120\n[[count]]\nmark = \"b\"\nmax = 0\n",
+        "40 pppp\ntouches 1\n",
+    ),
+    (
+        "two bobs",
+        DOUBLES_LEADS,
+        "[query]\nmin = 1\nmax = 120\n[[count]]\nmark = \"b\"\nmin = 2\nmax = 2\n",
+        "20 bb\ntouches 1\n",
+    ),
+    ("one length", DOUBLES_LEADS, "[query]\nmin = 60\nmax = 60\n", "60 pbpbpb\ntouches 1\n"),
+    ("lengths of no touch", DOUBLES_LEADS, "[query]\nmin = 61\nmax = 99\n", "touches 0\n"),
+    (
+        "a row that the least rotation lacks",
+        DOUBLES_LEADS,
+        "[query]\nmin = 60\nmax = 60\n[[rows]]\npattern = \"14253\"\nmin = 1\n",
+        "60 bpbpbp\ntouches 1\n",
+    ),
+    (
         "Grandsire Doubles",
-        5,
-        "3,1.5.1.5.1",
-        1,
-        120,
+        "stage = 5\n[[method]]\nletter = \"G\"\nnotation = \"3,1.5.1.5.1\"\n",
+        "[query]\nmin = 1\nmax = 30\n",
         "30 ppp\ntouches 1\n",
     ),
+    ("two methods", SPLICED, "", ALL_SPLICED),
     (
-        "Plain Bob Minor",
-        6,
-        "x16x16x16,12",
-        1,
-        720,
-        "60 ppppp\ntouches 1\n",
+        "a call that replaces more changes than it has",
+        MINIMUS_LEADS,
+        "[[call]]\nmark = \"e\"\nnotation = \"14\"\nover = 5\n[query]\nmin = 1\nmax = 24\n",
+        "8 ee\n24 ppp\ntouches 2\n",
     ),
+    ("no change of method", SPLICED, "[com]\nmax = 0\n", "24 ApApAp\n24 CpCpCp\ntouches 2\n"),
+    ("at most one change of method", SPLICED, "[com]\nmax = 1\n", ALL_SPLICED),
+    ("two changes of method", SPLICED, "[com]\nmin = 2\n", "24 ApCpAp\n24 CpApCp\ntouches 2\n"),
+    ("three changes of method", SPLICED, "[com]\nmin = 3\n", "touches 0\n"),
     (
-        "Plain Bob Triples",
-        7,
-        "7.1.7.1.7.1.7,127",
-        1,
-        5_040,
-        "84 pppppp\ntouches 1\n",
+        "two crosses",
+        "stage = 4\n[[method]]\nletter = \"A\"\nnotation = \"xx\"\n",
+        "[query]\nmin = 1\nmax = 24\n",
+        "2 p\ntouches 1\n",
     ),
-    (
-        "Plain Bob Major",
-        8,
-        "x18x18x18x18,12",
-        1,
-        12_000,
-        "112 ppppppp\ntouches 1\n",
-    ),
-    ("a cross", 4, "x", 1, 24, "2 pp\ntouches 1\n"),
-    ("a cross, as long as max", 4, "x", 1, 2, "2 pp\ntouches 1\n"),
-    ("a cross, above max", 4, "x", 1, 1, "touches 0\n"),
-    ("a cross, below min", 4, "x", 3, 24, "touches 0\n"),
-    ("two crosses", 4, "xx", 1, 24, "2 p\ntouches 1\n"),
-    ("Plain Hunt Singles", 3, "3.1", 1, 6, "6 ppp\ntouches 1\n"),
-    (
-        "Plain Hunt Singles, above max",
-        3,
-        "3.1",
-        1,
-        5,
-        "touches 0\n",
-    ),
-    ("no bell moves", 3, "123", 1, 6, "1 p\ntouches 1\n"),
-    (
-        "a row twice in a lead, and no lead's end",
-        4,
-        "x14.14.12",
-        1,
-        24,
-        "touches 0\n",
-    ),
-    ("rounds within a lead", 4, "xxx", 1, 24, "touches 0\n"),
-    (
-        "rounds at the eighth change of ten",
-        4,
-        "x14x14x14x14x14",
-        1,
-        24,
-        "touches 0\n",
-    ),
-    ("rounds come twice in six", 3, "3.1.3", 1, 6, "touches 0\n"),
 ];
 
 #[test]
-fn books_of_one_plain_lead(rt: HostRuntime) -> Result<(), Fail> {
-    for (name, stage, notation, min, max, book) in BOOKS {
-        let input = format!(in rt.alloc();
-            "stage = {stage}
-[[method]]
-letter = \"A\"
-notation = \"{notation}\"
-[query]
-min = {min}
-max = {max}
-"
-        )?;
+fn books(rt: HostRuntime) -> Result<(), Fail> {
+    for (name, start, end, book) in BOOKS {
+        let input = format!(in rt.alloc(); "{start}{end}")?;
         run(&rt, (name, &[], &input, (0, 0, 0), 0, book, ""))?;
     }
     Ok(())
@@ -138,16 +146,16 @@ min = 1
 max = 24
 ";
 
-const BOBS: &str = "stage = 5
+const TURNED_COM: &str = "stage = 4
 [[method]]
 letter = \"A\"
-notation = \"5.1.5.1.5,125\"
-[[call]]
-mark = \"b\"
-notation = \"145\"
+notation = \"x14x14,12\"
 [query]
 min = 1
-max = 120
+max = 24
+[com]
+min = 2
+max = 1
 ";
 
 const DEEP: &str = "stage = 8
@@ -209,13 +217,13 @@ const CALLS: [Call<'static>; 17] = [
         "ringsearch: words 1 Line\n",
     ),
     (
-        "a call",
+        "limits the wrong way round",
         &[],
-        BOBS,
+        TURNED_COM,
         (0, 0, 0),
-        90,
+        4,
         "",
-        "ringsearch: unbuilt\n",
+        "ringsearch: problem 17 Com\n",
     ),
     (
         "a checkpoint",
