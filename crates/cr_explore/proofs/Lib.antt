@@ -1,0 +1,5 @@
+pub mod Live
+pub mod Short
+pub mod Stacks
+pub mod Turning
+pub mod Places
