@@ -3,3 +3,4 @@ pub mod Short
 pub mod Stacks
 pub mod Turning
 pub mod Places
+pub mod Taking
