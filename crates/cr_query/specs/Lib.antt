@@ -1,0 +1,5 @@
+pub mod Fixing
+pub mod Shapes
+pub mod Kinds
+pub mod Meeting
+pub mod Keeping
