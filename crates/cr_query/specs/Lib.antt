@@ -3,3 +3,5 @@ pub mod Shapes
 pub mod Kinds
 pub mod Meeting
 pub mod Keeping
+pub mod Gauges
+pub mod Meters
