@@ -2,12 +2,12 @@
 #![tactic(auto)]
 
 mod ends;
-
-
-
+mod facts;
+pub mod laws;
+mod pruner;
+mod repeats;
 mod rows;
+mod walk;
 
-
-
-
-
+pub use pruner::Pruner;
+pub use walk::Walk;

@@ -1,11 +1,12 @@
 //! The rows of a node, and its first lead that brings one again.
 
-ghost use Rattle.std.specs.Prelude.{◌≡◌, ◌+◌, ◌-◌, ◌<◌, ◌≤◌, ℕ, not, List, [], ◌++◌, length, take, All, IfOk, IfSome, IsNone};
+ghost use Rattle.std.specs.Prelude.{◌≡◌, ◌+◌, ◌-◌, ◌<◌, ◌≤◌, ℕ, not, List, [], ◌++◌, length, take, All, Contains, IfOk, IfSome, IsNone};
 ghost use Rattle.cr_row.specs.Rows.{Places};
 ghost use Rattle.cr_model.specs.Problems.{ProblemParts};
 ghost use Rattle.cr_model.specs.Callings.{rows_from, last_of, rows_of, length_of, head_of, changes_of, AllDiffer};
 ghost use Rattle.cr_model.specs.Decided.{rows_differ};
 ghost use Rattle.cr_model.specs.Sizes.{child};
+ghost use Rattle.cr_rowset.specs.Pushing.{StandsAt};
 ghost use Rattle.cr_prune.specs.Rung.{AreRows};
 
 use cr_row::{Change, NoMemory, Row};
@@ -37,6 +38,14 @@ impl Rows {
         // It tells that the rows on the stack differ.
         let _ = self.stack.len();
         self.fresh != leads
+    }
+
+    /// The place of a row among those that are kept, counted from 0. None where it is none of them.
+    pub fn place_of(&self, row: &Row) -> Option<u64>
+        ensures some { IfSome result (λ place. StandsAt self.now.stack.rows row.now place) }
+        ensures none { IsNone result → Contains self.now.stack.rows row.now → ⊥ }
+    {
+        self.stack.place_of(row)
     }
 
     /// Rings one more lead from the head of so many, unless one of these brings a row again. Gives the last row,
