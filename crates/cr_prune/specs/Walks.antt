@@ -28,11 +28,11 @@ abbrev pub room_of : ProblemParts → ℕ
 room_of p = part_cap p + most_lead_changes
 
 -- what the fields keep: each is told by the problem and the node
-pub record IsWalk (p : ProblemParts) (table : TableParts) (node : List ℕ) (ends : List LeadEnd) (stack : StackParts) (fresh : ℕ) (meter : MeterParts) : Type 0 where
-  pub table : table ≡ lead_table p
+pub record IsWalk (p : ProblemParts) (leads : TableParts) (node : List ℕ) (marks : List LeadEnd) (stack : StackParts) (fresh : ℕ) (counted : MeterParts) : Type 0 where
+  pub table : leads ≡ lead_table p
   pub steps : HasSteps p node
   pub short : length_of p node ≤ room_of p
-  pub ends : AreEnds p node ends
+  pub ends : AreEnds p node marks
   pub rows : AreRows p node stack.rows fresh
   pub room : stack.room ≡ room_of p
-  pub meter : meter ≡ meter_from p node
+  pub meter : counted ≡ meter_from p node

@@ -1,6 +1,7 @@
 //! What is found of a problem once, for all of its nodes.
 
 ghost use Rattle.std.specs.Prelude.{◌≡◌, ℕ, ◌<◌, false, not, [], ◌∷◌, length, get_or};
+ghost use Rattle.cr_model.specs.Problems.{ProblemParts};
 ghost use Rattle.cr_model.specs.Callings.{rows_of};
 ghost use Rattle.cr_model.specs.Decided.{rows_differ};
 ghost use Rattle.cr_leads.specs.Tables.{lead_table};

@@ -50,8 +50,8 @@ impl<'a> Model for Pruner<'a> {
 impl<'a> Pruner<'a> {
     /// The pruner of a problem. It takes no memory.
     pub fn new(leads: &'a LeadTable, reach: &'a ReachTable, problem: &'a Problem) -> Pruner<'a>
-        requires { leads.entry.now ≡ lead_table problem.entry.now }
-        ensures { result ≡ record { problem = problem.entry.now; reach = reach.entry.now } }
+        requires { leads.now ≡ lead_table problem.now }
+        ensures { result ≡ record { problem = problem.now; reach = reach.now } }
     {
         let facts = Facts::of(problem, leads);
         Pruner {

@@ -1,10 +1,11 @@
 //! A walk through the nodes of a problem.
 
-ghost use Rattle.std.specs.Prelude.{◌≡◌, ◌+◌, ◌-◌, ◌<◌, ◌≤◌, ◌↔◌, ℕ, Bool, true, false, not, nat_lt, [], ◌∷◌, ◌++◌, length, take, get_or, All, Some, IsTrue, IfOk};
+ghost use Rattle.std.specs.Prelude.{◌≡◌, ◌+◌, ◌-◌, ◌<◌, ◌≤◌, ◌↔◌, ℕ, Bool, true, false, not, nat_lt, [], ◌∷◌, ◌++◌, length, take, get_or, All, Some, List, IsTrue, IfOk};
 ghost use Rattle.cr_row.specs.Rows.{rounds};
+ghost use Rattle.cr_model.specs.Problems.{ProblemParts};
 ghost use Rattle.cr_model.specs.Callings.{changes_of, rows_of, length_of, head_of, HasSteps};
 ghost use Rattle.cr_model.specs.Queries.{part_cap};
-ghost use Rattle.cr_model.specs.Nodes.{touch_of};
+ghost use Rattle.cr_model.specs.OneTurn.{touch_of};
 ghost use Rattle.cr_model.specs.Decided.{rows_differ};
 ghost use Rattle.cr_model.specs.Dead.{parts_of, is_home, is_too_many, is_too_few};
 ghost use Rattle.cr_model.specs.Sizes.{child};
@@ -60,8 +61,8 @@ impl<'a> Walk<'a> {
         problem: &'a Problem,
         leads: &'a LeadTable,
     ) -> Result<Walk<'a>, NoMemory>
-        requires { leads.entry.now ≡ lead_table problem.entry.now }
-        ensures { IfOk result (λ walk. walk ≡ record { problem = problem.entry.now; node = [] }) }
+        requires { leads.now ≡ lead_table problem.now }
+        ensures { IfOk result (λ walk. walk ≡ record { problem = problem.now; node = [] }) }
     {
         let steps = Period::new(alloc)?;
         let ends = Ends::new(alloc, Row::rounds(problem.stage()))?;
