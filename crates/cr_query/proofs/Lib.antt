@@ -1,0 +1,5 @@
+pub mod Fitting
+pub mod Words
+pub mod KeptCallings
+pub mod Halves
+pub mod Sizes
