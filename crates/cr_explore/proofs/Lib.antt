@@ -4,3 +4,5 @@ pub mod Stacks
 pub mod Turning
 pub mod Places
 pub mod Taking
+pub mod AnyOrder
+pub mod Finishing

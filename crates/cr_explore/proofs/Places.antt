@@ -17,7 +17,6 @@ use Rattle.cr_explore.specs.Stacks.{first_live, live_from, untried, left_below, 
 use Rattle.cr_explore.proofs.Live.{IsFirstLive, first_live_is}
 use Rattle.cr_explore.proofs.Stacks.{stack_down, stack_dry, stack_up, stack_tried, below_base}
 
-
 module _ (p : ProblemParts) (most : ℕ) (from : List ℕ) (next : ℕ) (to : List ℕ) where
   -- it found none
   down_none : (found : Option ℕ) → is_some found ≡ false → found ≡ first_live p most from next → IfNone found (to ≡ from) → (first_live p most from next ≡ None) × (to ≡ from)

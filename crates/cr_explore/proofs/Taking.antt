@@ -29,7 +29,7 @@ module _ (p : ProblemParts) (most : ℕ) (job : List (List ℕ)) where
       → so_far more (stack_of p most job after to) (used + 1) ≡ after_turns p most job (used + 1)
   goes_on before from after to found more used taken finds h =
       let all : stack_of p most job after to ≡ left_below p most job after to ++ reverse (live_children p most to) =
-          ap (λ step. left_below p most job after to ++ reverse (live_from p most to step)) taken.next ∙ ap (λ nodes. left_below p most job after to ++ reverse nodes) (all_live p most to) in
+      ap (λ step. left_below p most job after to ++ reverse (live_from p most to step)) taken.next ∙ ap (λ nodes. left_below p most job after to ++ reverse nodes) (all_live p most to) in
       ap₂ (λ f r. so_far f r (used + 1)) finds all
       ∙ turn_more p most job used found (left_below p most job after to) to used (ap (λ r. so_far found r used) (sym taken.last) ∙ h)
 

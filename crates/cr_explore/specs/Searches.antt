@@ -4,8 +4,17 @@ use Rattle.cr_model.specs.Problems.{ProblemParts}
 use Rattle.cr_model.specs.Sizes.{most_rows}
 use Rattle.cr_leads.specs.Tables.{TableParts, lead_table}
 use Rattle.cr_reach.specs.Tables.{ReachParts, reach_table}
+use Rattle.cr_prune.specs.Walks.{WalkParts}
+use Rattle.cr_prune.specs.Pruners.{PrunerParts}
 
 -- they are those of the problem
 pub record AreTables (p : ProblemParts) (leads : TableParts) (reach : ReachParts) : Type 0 where
   pub leads : leads ≡ lead_table p
   pub reach : reach ≡ reach_table p most_rows
+
+-- the path's walk and pruner are of the problem, and so are its tables
+pub record IsWalkPath (p : ProblemParts) (leads : TableParts) (walk : WalkParts) (pruner : PrunerParts) : Type 0 where
+  pub table : leads ≡ lead_table p
+  pub walk_of : walk.problem ≡ p
+  pub pruner_of : pruner.problem ≡ p
+  pub reach : pruner.reach ≡ reach_table p most_rows

@@ -1,9 +1,14 @@
 //! The search of a job, turn by turn.
 #![tactic(auto)]
 
+pub mod laws;
 mod path;
+mod row_search;
 mod search;
 mod touches;
+mod walk_path;
 
 pub use path::Path;
+pub use row_search::RowSearch;
 pub use search::{Explored, take_turns};
+pub use walk_path::WalkPath;

@@ -16,8 +16,8 @@ returns-clause-goes g c = λ _.
     let some : 0 < number = omega arith in
     let inside : number ≤ length job = omega arith in
     let read : c.steps-steps.result.now ≡ get_or job (number - 1) c.steps-steps.result.now =
-        c.steps-steps.ensures.is ∙ c.index-job-place.is ∙ ap (get_or job (number - 1)) (sym c.steps-steps.ensures.is) in
+    c.steps-steps.ensures.is ∙ c.index-job-place.is ∙ ap (get_or job (number - 1)) (sym c.steps-steps.ensures.is) in
     subst (λ (to : List ℕ). IsTaken (g.P.Path.problem_of c.args.path.now) most_rows job c.args.place.now (g.P.Path.node_of c.args.path.now)
-        (record { left = number - 1; base = length c.steps-steps.result.now; next = 0 }) to) (sym c.go_to.ensures.node)
+    (record { left = number - 1; base = length c.steps-steps.result.now; next = 0 }) to) (sym c.go_to.ensures.node)
     (job_taken (g.P.Path.problem_of c.args.path.now) most_rows job c.args.place.now (g.P.Path.node_of c.args.path.now) number c.steps-steps.result.now
-        (ended.first ∙ ap (λ n. take n job) left) some inside read)
+    (ended.first ∙ ap (λ n. take n job) left) some inside read)

@@ -9,7 +9,7 @@ use Rattle.cr_explore.proofs.search.take_path.Goals as goal
 pub returns : goal.returns
 returns g c = λ job.
     let ended = subst (λ (p : ProblemParts). IsPathEnded p most_rows job c.loop-alloc.place (g.P.Path.node_of c.loop-alloc.path) c.descend.new.place (g.P.Path.node_of c.descend.new.path))
-        c.loop-alloc.invariant.problem (c.descend.ensures.ends c.loop-alloc-test.false job) in
+    c.loop-alloc.invariant.problem (c.descend.ensures.ends c.loop-alloc-test.false job) in
     c.loop-alloc.invariant.nodes job ∙ ap (λ stack. stack ++ reverse c.loop-alloc.nodes.items) (ended.first ∙ ap (λ n. take n job) c.loop-alloc.invariant.left)
 
 pub loop-alloc-smaller : goal.loop-alloc-smaller
@@ -17,9 +17,9 @@ loop-alloc-smaller g c =
     let loop = g.P.Path.problem_of c.loop-alloc.path in
     let all : c.step_count-steps.result ≡ length loop.leads = c.step_count-steps.ensures.is ∙ ap (λ (p : ProblemParts). length p.leads) (c.problem.ensures ∙ sym c.loop-alloc.invariant.problem) in
     subst (λ (p : ProblemParts). length (stack_of p most_rows [] (record c.descend.new.place { next = c.step_count-steps.result }) (g.P.Path.node_of c.descend.new.path)) < length (stack_of loop most_rows [] c.loop-alloc.place (g.P.Path.node_of c.loop-alloc.path)))
-        (sym c.descend.ensures.problem)
+    (sym c.descend.ensures.problem)
     (fewer loop most_rows [] c.loop-alloc.place (g.P.Path.node_of c.loop-alloc.path) c.descend.new.place (g.P.Path.node_of c.descend.new.path) c.step_count-steps.result all
-        (c.descend.ensures.goes c.loop-alloc-test.true []))
+    (c.descend.ensures.goes c.loop-alloc-test.true []))
 
 pub loop-alloc-preserved : goal.loop-alloc-preserved
 loop-alloc-preserved g c =

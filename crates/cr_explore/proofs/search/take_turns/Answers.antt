@@ -36,7 +36,7 @@ loop-used-preserved g c =
     let problem : g.P.Path.problem_of c.find_touch.new.path ≡ g.P.Path.problem_of c.go_on.new.path = c.find_touch.ensures.problem in
     let here : IsPlace (g.P.Path.problem_of c.find_touch.new.path) c.go_on.new.place at = subst (λ (q : ProblemParts). IsPlace q c.go_on.new.place at) (sym problem) c.go_on.ensures.place in
     let taken : IsTaken p most_rows job c.loop-used.place from c.go_on.new.place at =
-        subst (λ (q : ProblemParts). IsTaken q most_rows job c.loop-used.place from c.go_on.new.place at) c.loop-used.invariant.problem (c.go_on.ensures.goes c.if-not-go_on.false) in
+    subst (λ (q : ProblemParts). IsTaken q most_rows job c.loop-used.place from c.go_on.new.place at) c.loop-used.invariant.problem (c.go_on.ensures.goes c.if-not-go_on.false) in
     let finds : c.find_touch.new.found.items ≡ found ++ touch_found p at = c.in_ok-find_touch.ensures.found ∙ ap (λ (q : ProblemParts). found ++ touch_found q at) went in
     record {
       few = omega arith;
@@ -57,19 +57,19 @@ returns g c =
     elim c.loop-used-test.branch [
       | else-loop-used-test w ↦
           let rest : c.in_ok-rest.rest.items ≡ stack_of p most_rows job c.loop-used.place (g.P.Path.node_of c.loop-used.path) =
-              c.in_ok-rest.ensures
-              ∙ ap₂ (λ (path : g.row.P.Denot) (place : Place). stack_of (g.P.Path.problem_of path) most_rows job place (g.P.Path.node_of path)) w.path-is w.place-is
-              ∙ ap (λ (q : ProblemParts). stack_of q most_rows job c.loop-used.place (g.P.Path.node_of c.loop-used.path)) c.loop-used.invariant.problem in
+          c.in_ok-rest.ensures
+          ∙ ap₂ (λ (path : g.row.P.Denot) (place : Place). stack_of (g.P.Path.problem_of path) most_rows job place (g.P.Path.node_of path)) w.path-is w.place-is
+          ∙ ap (λ (q : ProblemParts). stack_of q most_rows job c.loop-used.place (g.P.Path.node_of c.loop-used.path)) c.loop-used.invariant.problem in
           let all : used ≡ c.args.turns = omega (arith, w.loop-used-test.false, c.loop-used.invariant.few) in
           ap (λ r. so_far found r used) rest ∙ c.loop-used.invariant.so_far ∙ ap (after_turns p most_rows job) all
       | then-loop-used-test+then-not-go_on w ↦
           let to = g.P.Path.node_of w.go_on.new.path in
           let rest : c.in_ok-rest.rest.items ≡ stack_of p most_rows job w.go_on.new.place to =
-              c.in_ok-rest.ensures
-              ∙ ap₂ (λ (path : g.row.P.Denot) (place : Place). stack_of (g.P.Path.problem_of path) most_rows job place (g.P.Path.node_of path)) w.path-is w.place-is
-              ∙ ap (λ (q : ProblemParts). stack_of q most_rows job w.go_on.new.place to) (w.go_on.ensures.problem ∙ c.loop-used.invariant.problem) in
+          c.in_ok-rest.ensures
+          ∙ ap₂ (λ (path : g.row.P.Denot) (place : Place). stack_of (g.P.Path.problem_of path) most_rows job place (g.P.Path.node_of path)) w.path-is w.place-is
+          ∙ ap (λ (q : ProblemParts). stack_of q most_rows job w.go_on.new.place to) (w.go_on.ensures.problem ∙ c.loop-used.invariant.problem) in
           let ended : IsEnded p most_rows job c.loop-used.place (g.P.Path.node_of c.loop-used.path) w.go_on.new.place to =
-              subst (λ (q : ProblemParts). IsEnded q most_rows job c.loop-used.place (g.P.Path.node_of c.loop-used.path) w.go_on.new.place to) c.loop-used.invariant.problem (w.go_on.ensures.ends w.if-not-go_on.true) in
+          subst (λ (q : ProblemParts). IsEnded q most_rows job c.loop-used.place (g.P.Path.node_of c.loop-used.path) w.go_on.new.place to) c.loop-used.invariant.problem (w.go_on.ensures.ends w.if-not-go_on.true) in
           ap (λ r. so_far found r used) rest
           ∙ ends p most_rows job c.loop-used.place (g.P.Path.node_of c.loop-used.path) w.go_on.new.place to found used c.args.turns ended c.loop-used.invariant.few c.loop-used.invariant.so_far
     ]

@@ -17,5 +17,5 @@ unreachable-requires c =
     let few : c.parts_of-parts.result * length c.args.node.now ≤ most_leads = rw c.parts_of-parts.ensures.is short in
     let last : c.loop-part._part ≡ c.parts_of-parts.result = omega arith in
     let number : length c.loop-part.steps.items ≡ c.parts_of-parts.result * length c.args.node.now =
-        ap length c.loop-part.invariant ∙ ap (λ n. length (repeated n c.args.node.now)) last ∙ steps_in_parts c.parts_of-parts.result c.args.node.now in
+    ap length c.loop-part.invariant ∙ ap (λ n. length (repeated n c.args.node.now)) last ∙ steps_in_parts c.parts_of-parts.result c.args.node.now in
     absurd (false≢true (c.in-Err.ensures.accepts.1 (omega (arith, number, few, c.loop-part.steps.ok.0))))
