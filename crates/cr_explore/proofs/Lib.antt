@@ -6,3 +6,5 @@ pub mod Places
 pub mod Taking
 pub mod AnyOrder
 pub mod Finishing
+pub mod Powers
+pub mod KeptTouches

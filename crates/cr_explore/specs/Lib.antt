@@ -1,3 +1,4 @@
 pub mod Turns
 pub mod Stacks
+pub mod Keeping
 pub mod Searches

@@ -1,6 +1,7 @@
 //! The search of a job, turn by turn.
 #![tactic(auto)]
 
+mod homes;
 pub mod laws;
 mod path;
 mod row_search;
