@@ -3,3 +3,4 @@ pub mod Words
 pub mod KeptCallings
 pub mod Halves
 pub mod Sizes
+pub mod Edits

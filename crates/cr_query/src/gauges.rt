@@ -100,12 +100,20 @@ pub fn all_within(gauges: &[Gauge], parts: u64) -> bool
     requires few { AreFew gauges.now }
     ensures { IsTrue result ↔ All (λ gauge. IsWithin gauge.min gauge.max (parts * gauge.number)) gauges.now }
 {
-    for gauge in gauges {
-        if !is_within(gauge.min, gauge.max, in_parts(parts, gauge.number)) {
+    for index in 0..gauges.len() {
+        if !is_met(gauges[index], parts) {
             return false;
         }
     }
     true
+}
+
+fn is_met(gauge: Gauge, parts: u64) -> bool
+    requires parts { parts ≤ 64 }
+    requires few { gauge.number ≤ 1026 }
+    ensures { IsTrue result ↔ IsWithin gauge.min gauge.max (parts * gauge.number) }
+{
+    is_within(gauge.min, gauge.max, in_parts(parts, gauge.number))
 }
 
 // The gauge after one lead more with this mark or letter.
