@@ -4,3 +4,6 @@ pub mod KeptCallings
 pub mod Halves
 pub mod Sizes
 pub mod Edits
+pub mod Moves
+pub mod Raising
+pub mod Metering

@@ -1,9 +1,19 @@
 //! Nodes, as lists of steps that grow and shrink at their end.
 
 ghost use Rattle.std.specs.Prelude.{◌≡◌, ◌-◌, ◌<◌, ◌≤◌, cond, nat_eq, [], ◌∷◌, ◌++◌, length, take, All, vec_len, vec_capacity};
-ghost use Rattle.cr_query.specs.Meters.{change_between};
+ghost use Rattle.cr_model.specs.Problems.{ProblemParts};
+ghost use Rattle.cr_query.specs.Kinds.{kind_of};
+ghost use Rattle.cr_query.specs.Meters.{kinds_of, change_between};
 
 use crate::kinds::Kind;
+
+/// The kind of a step, among those of all steps.
+pub fn kind_at(kinds: &[Kind], step: u8) -> Kind
+    requires { step < length kinds.now }
+    ensures { (p : ProblemParts) → kinds.now ≡ kinds_of p → result ≡ kind_of p step }
+{
+    kinds[usize::from(step)]
+}
 
 /// One where a step of this method changes the method after the node, and else none. The kinds are those of
 /// all steps.

@@ -9,7 +9,7 @@ use Rattle.cr_query.proofs.gauges.raise.Goals as goal
 
 pub raised-requires : goal.raised-requires
 raised-requires c =
-    let old = (record { of = 0; min = pos 0; max = pos 0; number = 0 }) in
+    let old : Gauge = (record { of = 0; min = pos 0; max = pos 0; number = 0 }) in
     let few : (get_or c.args.gauges.now c.loop-index.index old).number ≤ 1024 = All-get_or (λ (gauge : Gauge). gauge.number ≤ 1024) c.args.gauges.now c.loop-index.index old (omega arith) c.requires in
     let here : (get_or c.loop-index.gauges c.loop-index.index old).number ≤ 1024 = subst (λ (gauge : Gauge). gauge.number ≤ 1024) (sym (not_yet (raised c.args.of) c.args.gauges.now c.loop-index.gauges c.loop-index.index old (omega arith) c.loop-index.invariant)) few in
     omega (arith, here)
@@ -17,4 +17,4 @@ raised-requires c =
 pub loop-index-preserved : goal.loop-index-preserved
 loop-index-preserved c =
     let old = get_or c.loop-index.gauges c.loop-index.index (record { of = 0; min = pos 0; max = pos 0; number = 0 }) in
-    rw c.raised.ensures (map_over_more (raised c.args.of) c.args.gauges.now c.loop-index.gauges c.loop-index.index old (omega arith) c.loop-index.invariant (get_or_default c.loop-index.gauges c.loop-index.index (record { of = 0; min = pos 0; max = pos 0; number = 0 }) old (omega arith)))
+    rw c.raised.ensures.is (map_over_more (raised c.args.of) c.args.gauges.now c.loop-index.gauges c.loop-index.index old (omega arith) c.loop-index.invariant (get_or_default c.loop-index.gauges c.loop-index.index (record { of = 0; min = pos 0; max = pos 0; number = 0 }) old (omega arith)))
