@@ -4,7 +4,7 @@ use Rattle.std.specs.List.{list_any, range_with_len}
 use Rattle.std.proofs.Math.Bool.{or_comm, or_assoc}
 use Rattle.std.proofs.lemmas.List.{length-map}
 use Rattle.std.proofs.lemmas.List.Elements.{All-head, All-tail, All-append, All-nil, All-cons, All-map, All-from_get_or, All-weaker}
-use Rattle.std.proofs.lemmas.List.FromFn.{length-range_with_len}
+use Rattle.std.proofs.lemmas.List.FromFn.{length-range_with_len, length-map-range_with_len}
 use Rattle.std.proofs.lemmas.List.Folds.{map_fixed}
 use Rattle.std.proofs.lemmas.List.Sums.{sum_by-le, count_by-le-length}
 use Rattle.cr_row.specs.Rows.{rounds, product}
@@ -26,7 +26,7 @@ use Rattle.cr_query.specs.declared.kinds.Kind.{Kind}
 use Rattle.cr_query.specs.declared.numbers.Numbers.{Numbers}
 use Rattle.cr_query.specs.Gauges.{raised, perhaps_raised, is_above, is_below, mark_in, letter_in, too_many_leads, too_few_leads, room_left, HasSmallCounts, has_more_rows, has_fewer_rows}
 use Rattle.cr_query.specs.Kinds.{kind_of}
-use Rattle.cr_query.specs.Meters.{marked, lettered, fitted, kinds_of, change_between, HasNumbers, IsCounted, has_too_many_leads, has_too_few_leads, has_too_few_rows}
+use Rattle.cr_query.specs.Meters.{marked, lettered, fitted, kinds_of, change_between, HasNumbers, IsCounted, has_too_many_leads, has_too_few_leads, has_too_few_rows, is_hopeless_by_leads}
 use Rattle.cr_query.proofs.Raising.{marks_raised, letters_raised, changes_pushed}
 
 -- a test of mapped items
@@ -85,6 +85,11 @@ room_is p node numbers long found is =
     ap₂ (λ most n. (most - n) / numbers.shortest) found.part_most is
     ∙ ap (λ s. (part_cap p - length_of p node) / s) found.shortest
 
+pub in_order : (a b c r : Bool) → ((a || (b || c)) || r) ≡ (a || (b || (r || c)))
+in_order true b c r = refl
+in_order false true c r = refl
+in_order false false c r = or_comm c r
+
 -- the order of the reasons
 pub many_in_order : (p : ProblemParts) (node : List ℕ) (rows : Bool)
     → rows ≡ list_any has_more_rows (map (fitted p node) p.query.patterns) → (has_too_many_leads p node || rows) ≡ is_too_many p node
@@ -93,11 +98,6 @@ many_in_order p node rows is =
     ∙ ap (λ r. list_any (λ count. is_above (parts_of p) (marked p node count)) p.query.counts
         || (list_any (λ count. is_above (parts_of p) (lettered p node count)) p.query.method_counts
         || (r || above_com p.query.com (parts_of p * changes_of_method p node)))) (is ∙ any_mapped has_more_rows (fitted p node) p.query.patterns)
-
-pub in_order : (a b c r : Bool) → ((a || (b || c)) || r) ≡ (a || (b || (r || c)))
-in_order true b c r = refl
-in_order false true c r = refl
-in_order false false c r = or_comm c r
 
 -- numbers of a node
 few_changed : (p : ProblemParts) (node : List ℕ) → changes_of_method p node ≤ length node
@@ -139,3 +139,52 @@ small_counts p node marks letters patterns long changes sound counted =
 pub all_fit : (p : ProblemParts) → IsSound p → All (λ (pattern : PatternParts). FitsStage p.stage pattern.cells) p.query.patterns
 all_fit p sound = All-from_get_or (λ (pattern : PatternParts). FitsStage p.stage pattern.cells) p.query.patterns _
     (λ i inside. (sound_patterns p sound i inside).cells.size)
+
+-- as many kinds as steps
+pub kinds_counted : (p : ProblemParts) (kinds : List Kind) → kinds ≡ kinds_of p → length kinds ≡ length p.leads
+kinds_counted p kinds is = ap length is ∙ length-map-range_with_len (kind_of p) 0 (length p.leads)
+
+-- each step of a node has a kind
+pub known_kinds : (p : ProblemParts) (kinds ks : List Kind) (node steps : List ℕ) → kinds ≡ kinds_of p → ks ≡ kinds → steps ≡ node → HasSteps p node
+    → All (λ step. step < length ks) steps
+known_kinds p kinds ks node steps is same same_steps known =
+    let long : length ks ≡ length p.leads = ap length same ∙ kinds_counted p kinds is in
+    subst (All (λ step. step < length ks)) (sym same_steps)
+    (All-weaker (λ step. step < length p.leads) (λ step. step < length ks) (λ step inside. omega (arith, long)) node known)
+
+-- lengths of callings joined
+abbrev pub LengthsAdd : Type 0
+LengthsAdd = (p : ProblemParts) (calling more : List ℕ) → length_of p (calling ++ more) ≡ length_of p calling + length_of p more
+
+pub longer : LengthsAdd → (p : ProblemParts) (node : List ℕ) (step : ℕ) → length_of p (child node step) ≡ length_of p node + lead_length p step
+longer lengths p node step = lengths p node (step ∷ []) ∙ ap (λ n. length_of p node + n) (ap length (append-nil (changes_of p step)))
+
+-- a node with a lead more
+module _ (p : ProblemParts) (node : List ℕ) (kinds : List Kind) (marks letters : List Gauge) (patterns : List Fitting) (long changes : ℕ)
+    (step : ℕ) (kind : Kind) (kinds_are : kinds ≡ kinds_of p) (counted : IsCounted p node marks letters patterns long changes) (kind_is : kind ≡ kind_of p step) where
+  pub mark_raised : map (raised kind.mark) marks ≡ map (marked p (child node step)) p.query.counts
+  mark_raised = ap₂ (λ m l. map (raised m) l) (ap (λ (k : Kind). k.mark) kind_is) counted.by_mark ∙ marks_raised p node step p.query.counts
+
+  pub letter_raised : map (raised kind.letter) letters ≡ map (lettered p (child node step)) p.query.method_counts
+  letter_raised = ap₂ (λ m l. map (raised m) l) (ap (λ (k : Kind). k.letter) kind_is) counted.by_letter ∙ letters_raised p node step p.query.method_counts
+
+  pub change_raised : (change : ℕ) → change ≡ change_between kinds node kind.method → changes + change ≡ changes_of_method p (child node step)
+  change_raised change is =
+      ap₂ (λ n m. n + m) counted.changed (is ∙ ap (λ (k : Kind). change_between kinds node k.method) kind_is)
+      ∙ sym (changes_pushed p kinds node step kinds_are counted.steps)
+
+  pub length_raised : LengthsAdd → long + kind.length ≡ length_of p (child node step)
+  length_raised lengths = ap₂ (λ n m. n + m) counted.long (ap (λ (k : Kind). k.length) kind_is) ∙ sym (longer lengths p node step)
+
+  -- it is hopeless by its leads where the gauges tell so
+  pub hopeless_told : LengthsAdd → (numbers : Numbers) → HasNumbers p numbers → (change left : ℕ) → change ≡ change_between kinds node kind.method
+      → left ≡ room_left numbers (long + kind.length)
+      → (too_many_leads numbers marks letters (Some kind) (changes + change) || too_few_leads numbers marks letters (Some kind) (changes + change) left)
+      ≡ is_hopeless_by_leads p (child node step)
+  hopeless_told lengths numbers found change left is left_is =
+      let by_mark = one_added kind.mark marks ∙ mark_raised in
+      let by_letter = one_added kind.letter letters ∙ letter_raised in
+      ap₂ (λ a b. a || b)
+      (many_told p (child node step) numbers marks letters (Some kind) (changes + change) found by_mark by_letter (change_raised change is))
+      (few_told p (child node step) numbers marks letters (Some kind) (changes + change) found by_mark by_letter (change_raised change is) left
+          (left_is ∙ room_is p (child node step) numbers (long + kind.length) found (length_raised lengths)))

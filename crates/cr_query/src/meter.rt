@@ -17,7 +17,7 @@ use crate::kinds::Kind;
 use crate::meeting::{counts_of, method_counts_of, patterns_of};
 use crate::nodes::{change_to, cut, kind_at, put};
 use crate::numbers::{Numbers, leads_left, numbers_of};
-use crate::telling::{has_too_few_leads, has_too_many_leads};
+use crate::telling::{has_too_few_leads, has_too_many_leads, is_hopeless};
 use cr_leads::LeadTable;
 use cr_model::Problem;
 use cr_model::laws::{joined_callings_multiply, ringing_on};
@@ -157,7 +157,14 @@ impl Meter {
         requires { step < length self.now.problem.leads }
         ensures { result ≡ is_hopeless_by_leads self.now.problem (child self.now.node step) }
     {
-        self.has_too_many_leads_with(step) || self.has_too_few_leads_with(step)
+        if self.asks_nothing_of_leads() {
+            return false;
+        }
+        ringing_on();
+        let kind = kind_at(&self.kinds, step);
+        let changes = self.changes + change_to(&self.kinds, &self.steps, kind.method);
+        let left = leads_left(self.numbers, self.length + kind.length);
+        is_hopeless(self.numbers, &self.marks, &self.letters, Some(kind), changes, left)
     }
 
     /// Whether the node's touch, which is so many times the node as the query has parts, meets each count of
@@ -166,8 +173,19 @@ impl Meter {
         ensures { IsTrue result ↔ (MeetsCounts self.now.problem (touch_of self.now.problem self.now.node)
             × MeetsMethodCounts self.now.problem (touch_of self.now.problem self.now.node)) }
     {
-        let parts = self.numbers.parts;
-        all_within(&self.marks, parts) && all_within(&self.letters, parts)
+        self.meets_mark_counts() && self.meets_method_counts()
+    }
+
+    fn meets_mark_counts(&self) -> bool
+        ensures { IsTrue result ↔ MeetsCounts self.now.problem (touch_of self.now.problem self.now.node) }
+    {
+        all_within(&self.marks, self.numbers.parts)
+    }
+
+    fn meets_method_counts(&self) -> bool
+        ensures { IsTrue result ↔ MeetsMethodCounts self.now.problem (touch_of self.now.problem self.now.node) }
+    {
+        all_within(&self.letters, self.numbers.parts)
     }
 
     fn has_too_many(&self) -> bool
@@ -204,34 +222,10 @@ impl Meter {
         some_have_fewer(&self.patterns, self.numbers.most.saturating_sub(self.length))
     }
 
-    // The same with this step more.
-    fn has_too_many_leads_with(&self, step: u8) -> bool
-        requires { step < length self.now.problem.leads }
-        ensures { result ≡ has_too_many_leads self.now.problem (child self.now.node step) }
-    {
-        ringing_on();
-        let kind = kind_at(&self.kinds, step);
-        let changes = self.changes + change_to(&self.kinds, &self.steps, kind.method);
-        has_too_many_leads(self.numbers, &self.marks, &self.letters, Some(kind), changes)
-    }
-
-    fn has_too_few_leads_with(&self, step: u8) -> bool
-        requires { step < length self.now.problem.leads }
-        ensures { result ≡ has_too_few_leads self.now.problem (child self.now.node step) }
-    {
-        if self.asks_nothing_of_leads() {
-            return false;
-        }
-        ringing_on();
-        let kind = kind_at(&self.kinds, step);
-        let changes = self.changes + change_to(&self.kinds, &self.steps, kind.method);
-        let left = leads_left(self.numbers, self.length + kind.length);
-        has_too_few_leads(self.numbers, &self.marks, &self.letters, Some(kind), changes, left)
-    }
-
     // Whether the query has no counts and no limits on changes of method.
     fn asks_nothing_of_leads(&self) -> bool
-        ensures { result ≡ true → (node : List ℕ) → has_too_few_leads self.now.problem node ≡ false }
+        ensures { result ≡ true → (node : List ℕ)
+            → (has_too_many_leads self.now.problem node ≡ false) × (has_too_few_leads self.now.problem node ≡ false) }
     {
         self.marks.is_empty() && self.letters.is_empty() && self.numbers.com.is_none()
     }

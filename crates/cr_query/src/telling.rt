@@ -1,6 +1,6 @@
 //! What gauges and numbers tell of a node.
 
-ghost use Rattle.std.specs.Prelude.{◌≡◌, ◌≤◌};
+ghost use Rattle.std.specs.Prelude.{◌≡◌, ◌≤◌, ◌||◌};
 ghost use Rattle.cr_query.specs.Gauges.{AreFew, mark_in, letter_in, too_many_leads, too_few_leads};
 
 use crate::gauges::{Gauge, some_above, some_below};
@@ -48,6 +48,28 @@ pub fn has_too_few_leads(
     some_below(marks, mark_in(added), numbers.parts, left)
         || some_below(letters, letter_in(added), numbers.parts, left)
         || is_below_com(numbers.com, with_joins(numbers.parts, changes + left))
+}
+
+/// Both together.
+pub fn is_hopeless(
+    numbers: Numbers,
+    marks: &[Gauge],
+    letters: &[Gauge],
+    added: Option<Kind>,
+    changes: u64,
+    left: u64,
+) -> bool
+    requires some { 1 ≤ numbers.parts }
+    requires parts { numbers.parts ≤ 64 }
+    requires marks { AreFew marks.now }
+    requires letters { AreFew letters.now }
+    requires changes { changes ≤ 1025 }
+    requires left { left ≤ 12000 }
+    ensures { result ≡ (too_many_leads numbers marks.now letters.now added changes
+        || too_few_leads numbers marks.now letters.now added changes left) }
+{
+    has_too_many_leads(numbers, marks, letters, added, changes)
+        || has_too_few_leads(numbers, marks, letters, added, changes, left)
 }
 
 fn mark_in(added: Option<Kind>) -> Option<u8>

@@ -7,9 +7,9 @@ returns-clause-small c =
     let p = c.args.problem.now in
     let sound = c.query.ensures.sound in
     record {
-      some_parts = omega (arith, c.parts_of-parts.ensures.some);
-      few_parts = omega (arith, c.parts_of-parts.ensures.few);
-      some_changes = omega (arith, c.shortest-shortest.ensures.some);
-      short = omega (arith, c.cap-most.ensures, cap_short p sound);
-      short_part = omega (arith, c.part_cap-part_most.ensures, part_cap_short p sound);
+      some_parts = omega (arith, c.parts_of.ensures.some);
+      few_parts = omega (arith, c.parts_of.ensures.few);
+      some_changes = omega (arith, c.shortest.ensures.some);
+      short = omega (arith, c.cap.ensures, cap_short p sound);
+      short_part = omega (arith, c.part_cap.ensures, part_cap_short p sound);
     }

@@ -7,7 +7,7 @@ use Rattle.cr_query.proofs.meter.Meter.has_too_many_leads.Goals as goal
 pub returns : goal.returns
 returns c =
     let m = c.self.inside in
-    let counted = c.self.invariant.1.0 in
+    let counted = c.self.invariant.1 in
     c.has_too_many_leads.ensures
     ∙ ap₂ (λ marks letters. too_many_leads m.numbers marks letters None m.changes) c.deref.ensures.value c.deref-2.ensures.value
     ∙ many_told m.problem m.steps.items m.numbers m.marks.items m.letters.items None m.changes c.self.invariant.0.found
