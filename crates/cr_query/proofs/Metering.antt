@@ -2,19 +2,21 @@
 use Rattle.std.proofs.Common.{◌≡◌, ℕ, zero, suc, ◌+◌, ◌-◌, ◌*◌, ◌/◌, ◌<◌, ◌≤◌, ◌↔◌, Bool, true, false, cond, ◌||◌, List, [], ◌∷◌, ◌++◌, length, get_or, map, take, flat_map, sum_by, All, count_by, nat_eq, Option, Some, None, refl, sym, ap, ap₂, ◌∙◌, subst, arith, length-append, append-nil}
 use Rattle.std.specs.List.{list_any, range_with_len}
 use Rattle.std.proofs.Math.Bool.{or_comm, or_assoc}
-use Rattle.std.proofs.lemmas.List.{length-map}
+use Rattle.std.proofs.lemmas.List.{length-map, get_or-map, get_or_append_left}
+use Rattle.std.proofs.Math.Nat.{suc-mul}
 use Rattle.std.proofs.lemmas.List.Elements.{All-head, All-tail, All-append, All-nil, All-cons, All-map, All-from_get_or, All-weaker}
 use Rattle.std.proofs.lemmas.List.FromFn.{length-range_with_len, length-map-range_with_len}
 use Rattle.std.proofs.lemmas.List.Folds.{map_fixed}
-use Rattle.std.proofs.lemmas.List.Sums.{sum_by-le, count_by-le-length}
-use Rattle.cr_row.specs.Rows.{rounds, product}
+use Rattle.std.proofs.lemmas.List.Sums.{sum_by-le, sum_by-append, count_by-le-length}
+use Rattle.cr_row.specs.Rows.{IsRow, rounds, product}
 use Rattle.cr_leads.specs.Tables.{TableParts, lead_table, IsLead}
 use Rattle.cr_model.specs.declared.query.Count.{Count}
 use Rattle.cr_model.specs.declared.query.MethodCount.{MethodCount}
 use Rattle.cr_model.specs.Problems.{PatternParts, ProblemParts}
 use Rattle.cr_model.specs.Callings.{mark_of, method_of, letter_of, lead_length, changes_of, changes_of_all, shortest, rows_of, length_of, head_of, HasSteps}
 use Rattle.cr_model.specs.Dead.{parts_of, left_of, leads_left, above_com, below_com, is_too_many, is_too_few}
-use Rattle.cr_model.specs.Queries.{fits, part_cap, leads_marked, leads_lettered, rows_fitting, changes_of_method}
+use Rattle.cr_model.specs.OneTurn.{touch_of}
+use Rattle.cr_model.specs.Queries.{IsWithin, fits, part_cap, leads_marked, leads_lettered, rows_fitting, changes_of_method}
 use Rattle.cr_model.specs.Right.{FitsStage, pattern_at}
 use Rattle.cr_model.specs.Sizes.{child}
 use Rattle.cr_model.specs.Sound.{IsSound, sound_leads, sound_patterns}
@@ -24,10 +26,11 @@ use Rattle.cr_query.specs.declared.gauges.Gauge.{Gauge}
 use Rattle.cr_query.specs.declared.fittings.Fitting.{Fitting}
 use Rattle.cr_query.specs.declared.kinds.Kind.{Kind}
 use Rattle.cr_query.specs.declared.numbers.Numbers.{Numbers}
-use Rattle.cr_query.specs.Gauges.{raised, perhaps_raised, is_above, is_below, mark_in, letter_in, too_many_leads, too_few_leads, room_left, HasSmallCounts, has_more_rows, has_fewer_rows}
+use Rattle.cr_query.specs.Gauges.{raised, lowered, rows_more, rows_fewer, perhaps_raised, is_above, is_below, mark_in, letter_in, too_many_leads, too_few_leads, room_left, HasSmallCounts, has_more_rows, has_fewer_rows}
 use Rattle.cr_query.specs.Kinds.{kind_of}
-use Rattle.cr_query.specs.Meters.{marked, lettered, fitted, kinds_of, change_between, HasNumbers, IsCounted, has_too_many_leads, has_too_few_leads, has_too_few_rows, is_hopeless_by_leads}
-use Rattle.cr_query.proofs.Raising.{marks_raised, letters_raised, changes_pushed}
+use Rattle.cr_query.specs.Meeting.{MeetsCounts, MeetsMethodCounts}
+use Rattle.cr_query.specs.Meters.{mark_gauge, letter_gauge, fitting_of, marked, lettered, fitted, kinds_of, change_between, HasNumbers, IsCounted, has_too_many_leads, has_too_few_leads, has_too_few_rows, is_hopeless_by_leads}
+use Rattle.cr_query.proofs.Raising.{marks_raised, letters_raised, marks_lowered, letters_lowered, patterns_raised, patterns_lowered, changes_pushed}
 
 -- a test of mapped items
 pub any_mapped : {X Y : Type 0} (test : Y → Bool) (g : X → Y) (xs : List X) → list_any test (map g xs) ≡ list_any (λ x. test (g x)) xs
@@ -188,3 +191,134 @@ module _ (p : ProblemParts) (node : List ℕ) (kinds : List Kind) (marks letters
       (many_told p (child node step) numbers marks letters (Some kind) (changes + change) found by_mark by_letter (change_raised change is))
       (few_told p (child node step) numbers marks letters (Some kind) (changes + change) found by_mark by_letter (change_raised change is) left
           (left_is ∙ room_is p (child node step) numbers (long + kind.length) found (length_raised lengths)))
+
+-- a head is as long as the stage
+abbrev pub HeadsMultiply : Type 0
+HeadsMultiply = (p : ProblemParts) (calling more : List ℕ) → head_of p (calling ++ more) ≡ product (head_of p calling) (head_of p more)
+
+pub head_long : HeadsMultiply → (p : ProblemParts) (node : List ℕ) → length (head_of p node) ≡ p.stage
+head_long heads p node =
+    ap (λ calling. length (head_of p calling)) (sym (append-nil node))
+    ∙ ap length (heads p node [])
+    ∙ length-map (rounds p.stage) (λ b. get_or (head_of p node) (b - 1) 0)
+    ∙ length-range_with_len 1 p.stage
+
+-- the shapes of a meter's patterns are of the head's stage
+pub shapes_staged : (p : ProblemParts) (node head : List ℕ) (patterns : List Fitting) → patterns ≡ map (fitted p node) p.query.patterns → length head ≡ p.stage
+    → All (λ (fitting : Fitting). fitting.shape.stage ≡ length head) patterns
+shapes_staged p node head patterns is long =
+    subst (All (λ (fitting : Fitting). fitting.shape.stage ≡ length head)) (sym is)
+    (All-map (λ (fitting : Fitting). fitting.shape.stage ≡ length head) (fitted p node) p.query.patterns (λ k d inside. sym long))
+
+-- and the rows of a lead
+pub lead_staged : (p : ProblemParts) (head : List ℕ) (table : TableParts) (lead : List (List ℕ)) → table ≡ lead_table p → IsLead table.stage lead → length head ≡ p.stage
+    → All (λ row. length row ≡ length head) lead
+lead_staged p head table lead is rows long =
+    All-weaker (λ row. IsRow row × (length row ≡ table.stage)) (λ row. length row ≡ length head)
+    (λ row h. h.1 ∙ ap (λ (t : TableParts). t.stage) is ∙ sym long) lead rows.are_rows
+
+abbrev pub RowsJoin : Type 0
+RowsJoin = (p : ProblemParts) (calling more : List ℕ) → rows_of p (calling ++ more) ≡ rows_of p calling ++ map (product (head_of p calling)) (rows_of p more)
+
+-- what is counted of a child, and of its parent
+module _ (lengths : LengthsAdd) (joins : RowsJoin) (p : ProblemParts) (node : List ℕ) (kinds : List Kind) (marks letters : List Gauge) (patterns : List Fitting) (long changes : ℕ)
+    (step : ℕ) (kind : Kind) (head : List ℕ) (lead : List (List ℕ)) (change : ℕ)
+    (sound : IsSound p) (kinds_are : kinds ≡ kinds_of p) (kind_is : kind ≡ kind_of p step) (head_is : head ≡ head_of p node) (lead_is : lead ≡ rows_of p (step ∷ []))
+    (staged : All (λ row. length row ≡ p.stage) lead) (change_is : change ≡ change_between kinds node kind.method) where
+  joined : rows_of p (child node step) ≡ rows_of p node ++ map (product head) lead
+  joined = joins p node (step ∷ []) ∙ ap₂ (λ h l. rows_of p node ++ map (product h) l) (sym head_is) (sym lead_is)
+
+  pub one_more : IsCounted p node marks letters patterns long changes → step < length p.leads → length node < 1024
+      → IsCounted p (child node step) (map (raised kind.mark) marks) (map (raised kind.letter) letters) (map (rows_more head lead) patterns) (long + kind.length) (changes + change)
+  one_more counted inside room = record {
+    steps = All-append (λ s. s < length p.leads) node (step ∷ []) counted.steps (All-cons (λ s. s < length p.leads) step [] inside (All-nil (λ s. s < length p.leads)));
+    few = omega (arith, length-append node (step ∷ []));
+    by_mark = mark_raised p node kinds marks letters patterns long changes step kind kinds_are counted kind_is;
+    by_letter = letter_raised p node kinds marks letters patterns long changes step kind kinds_are counted kind_is;
+    by_pattern = ap (map (rows_more head lead)) counted.by_pattern ∙ patterns_raised p node step head lead joined staged p.query.patterns (all_fit p sound);
+    long = length_raised p node kinds marks letters patterns long changes step kind kinds_are counted kind_is lengths;
+    changed = change_raised p node kinds marks letters patterns long changes step kind kinds_are counted kind_is change change_is;
+  }
+
+  known_parent : IsCounted p (child node step) marks letters patterns long changes → HasSteps p node
+  known_parent counted k d inside =
+      subst (λ s. s < length p.leads) (get_or_append_left node (step ∷ []) d k inside) (counted.steps k d (omega (arith, length-append node (step ∷ []))))
+
+  -- the numbers of a child are no less than those of the lead
+  pub enough : IsCounted p (child node step) marks letters patterns long changes → (kind.length ≤ long) × (change ≤ changes)
+  enough counted =
+      let by_length : long ≡ length_of p node + kind.length = counted.long ∙ longer lengths p node step ∙ ap (λ n. length_of p node + n) (sym (ap (λ (k : Kind). k.length) kind_is)) in
+      let by_change : changes ≡ changes_of_method p node + change =
+      counted.changed ∙ changes_pushed p kinds node step kinds_are (known_parent counted) ∙ ap (λ n. changes_of_method p node + n) (sym (change_is ∙ ap (λ (k : Kind). change_between kinds node k.method) kind_is)) in
+      (omega arith, omega arith)
+
+  pub one_fewer : IsCounted p (child node step) marks letters patterns long changes
+      → IsCounted p node (map (lowered kind.mark) marks) (map (lowered kind.letter) letters) (map (rows_fewer head lead) patterns) (long - kind.length) (changes - change)
+  one_fewer counted =
+      let by_length : long ≡ length_of p node + kind.length = counted.long ∙ longer lengths p node step ∙ ap (λ n. length_of p node + n) (sym (ap (λ (k : Kind). k.length) kind_is)) in
+      let by_change : changes ≡ changes_of_method p node + change =
+      counted.changed ∙ changes_pushed p kinds node step kinds_are (known_parent counted) ∙ ap (λ n. changes_of_method p node + n) (sym (change_is ∙ ap (λ (k : Kind). change_between kinds node k.method) kind_is)) in
+      record {
+        steps = known_parent counted;
+        few = omega (arith, counted.few, length-append node (step ∷ []));
+        by_mark = ap₂ (λ m l. map (lowered m) l) (ap (λ (k : Kind). k.mark) kind_is) counted.by_mark ∙ marks_lowered p node step p.query.counts;
+        by_letter = ap₂ (λ m l. map (lowered m) l) (ap (λ (k : Kind). k.letter) kind_is) counted.by_letter ∙ letters_lowered p node step p.query.method_counts;
+        by_pattern = ap (map (rows_fewer head lead)) counted.by_pattern ∙ patterns_lowered p node step head lead joined staged p.query.patterns (all_fit p sound);
+        long = omega arith;
+        changed = omega arith;
+      }
+
+-- nothing is counted of no leads
+pub none_counted : (p : ProblemParts) (marks letters : List Gauge) (patterns : List Fitting) → marks ≡ map (mark_gauge 0) p.query.counts → letters ≡ map (letter_gauge 0) p.query.method_counts
+    → patterns ≡ map (fitting_of p.stage 0) p.query.patterns → IsCounted p [] marks letters patterns 0 0
+none_counted p marks letters patterns by_mark by_letter by_pattern = record {
+  steps = All-nil (λ s. s < length p.leads);
+  few = omega arith;
+  by_mark = by_mark;
+  by_letter = by_letter;
+  by_pattern = by_pattern;
+  long = refl;
+  changed = refl;
+}
+
+-- a count of words is so often that of the word
+repeated_count : (f : ℕ → ℕ) (word : List ℕ) (from number : ℕ) → sum_by f (flat_map (λ _. word) (range_with_len from number)) ≡ number * sum_by f word
+repeated_count f word from zero = refl
+repeated_count f word from (suc number) =
+    let rest = repeated_count f word (from + 1) number in
+    let sum = sum_by-append f word (flat_map (λ _. word) (range_with_len (from + 1) number)) in
+    let more = suc-mul number (sum_by f word) in
+    sum ∙ ap (λ n. sum_by f word + n) rest ∙ omega (arith, more)
+
+-- counts are met where they are so of the gauges, in all parts
+pub marks_met : (p : ProblemParts) (node : List ℕ) (marks : List Gauge) (parts : ℕ) → parts ≡ parts_of p → marks ≡ map (marked p node) p.query.counts
+    → All (λ (gauge : Gauge). IsWithin gauge.min gauge.max (parts * gauge.number)) marks ↔ MeetsCounts p (touch_of p node)
+marks_met p node marks parts is by_mark = (
+  λ all k d inside.
+      let here = subst (All (λ (gauge : Gauge). IsWithin gauge.min gauge.max (parts * gauge.number))) by_mark all k (marked p node d) (omega (arith, length-map p.query.counts (marked p node))) in
+      let gauge = get_or-map (marked p node) p.query.counts k d (marked p node d) inside in
+      let count = get_or p.query.counts k d in
+      subst (IsWithin count.min count.max) (ap (λ n. n * leads_marked p count.mark node) is ∙ sym (repeated_count (λ s. cond (nat_eq (mark_of p s) count.mark) 1 0) node 0 (parts_of p)))
+      (subst (λ (g : Gauge). IsWithin g.min g.max (parts * g.number)) gauge here),
+  λ met. subst (All (λ (gauge : Gauge). IsWithin gauge.min gauge.max (parts * gauge.number))) (sym by_mark)
+      (All-map (λ (gauge : Gauge). IsWithin gauge.min gauge.max (parts * gauge.number)) (marked p node) p.query.counts
+      (λ k d inside.
+          let count = get_or p.query.counts k d in
+          subst (IsWithin count.min count.max) (sym (ap (λ n. n * leads_marked p count.mark node) is ∙ sym (repeated_count (λ s. cond (nat_eq (mark_of p s) count.mark) 1 0) node 0 (parts_of p)))) (met k d inside))),
+)
+
+pub letters_met : (p : ProblemParts) (node : List ℕ) (letters : List Gauge) (parts : ℕ) → parts ≡ parts_of p → letters ≡ map (lettered p node) p.query.method_counts
+    → All (λ (gauge : Gauge). IsWithin gauge.min gauge.max (parts * gauge.number)) letters ↔ MeetsMethodCounts p (touch_of p node)
+letters_met p node letters parts is by_letter = (
+  λ all k d inside.
+      let here = subst (All (λ (gauge : Gauge). IsWithin gauge.min gauge.max (parts * gauge.number))) by_letter all k (lettered p node d) (omega (arith, length-map p.query.method_counts (lettered p node))) in
+      let gauge = get_or-map (lettered p node) p.query.method_counts k d (lettered p node d) inside in
+      let count = get_or p.query.method_counts k d in
+      subst (IsWithin count.min count.max) (ap (λ n. n * leads_lettered p count.letter node) is ∙ sym (repeated_count (λ s. cond (nat_eq (letter_of p s) count.letter) 1 0) node 0 (parts_of p)))
+      (subst (λ (g : Gauge). IsWithin g.min g.max (parts * g.number)) gauge here),
+  λ met. subst (All (λ (gauge : Gauge). IsWithin gauge.min gauge.max (parts * gauge.number))) (sym by_letter)
+      (All-map (λ (gauge : Gauge). IsWithin gauge.min gauge.max (parts * gauge.number)) (lettered p node) p.query.method_counts
+      (λ k d inside.
+          let count = get_or p.query.method_counts k d in
+          subst (IsWithin count.min count.max) (sym (ap (λ n. n * leads_lettered p count.letter node) is ∙ sym (repeated_count (λ s. cond (nat_eq (letter_of p s) count.letter) 1 0) node 0 (parts_of p)))) (met k d inside))),
+)
