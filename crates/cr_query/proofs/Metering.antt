@@ -1,8 +1,9 @@
 -- What a meter keeps, and what it tells of its node.
-use Rattle.std.proofs.Common.{◌≡◌, ℕ, zero, suc, ◌+◌, ◌-◌, ◌*◌, ◌/◌, ◌<◌, ◌≤◌, ◌↔◌, Bool, true, false, cond, ◌||◌, List, [], ◌∷◌, ◌++◌, length, get_or, map, take, flat_map, sum_by, All, count_by, nat_eq, Option, Some, None, refl, sym, ap, ap₂, ◌∙◌, subst, arith, length-append, append-nil}
+use Rattle.std.proofs.Common.{◌≡◌, ℕ, zero, suc, ◌+◌, ◌-◌, ◌*◌, ◌/◌, ◌<◌, ◌≤◌, ◌↔◌, Bool, true, false, cond, ◌||◌, List, [], ◌∷◌, ◌++◌, length, get_or, map, take, drop, flat_map, sum_by, All, count_by, nat_eq, Option, Some, None, refl, sym, ap, ap₂, ◌∙◌, subst, arith, length-append, append-nil}
 use Rattle.std.specs.List.{list_any, range_with_len}
 use Rattle.std.proofs.Math.Bool.{or_comm, or_assoc}
-use Rattle.std.proofs.lemmas.List.{length-map, get_or-map, get_or_append_left}
+use Rattle.std.proofs.lemmas.List.{length-map, get_or-map, get_or_append_left, take_all, drop_all}
+use Rattle.std.proofs.Math.Seq.{get_or-append_seam}
 use Rattle.std.proofs.Math.Nat.{suc-mul}
 use Rattle.std.proofs.lemmas.List.Elements.{All-head, All-tail, All-append, All-nil, All-cons, All-map, All-from_get_or, All-weaker}
 use Rattle.std.proofs.lemmas.List.FromFn.{length-range_with_len, length-map-range_with_len}
@@ -283,7 +284,7 @@ none_counted p marks letters patterns by_mark by_letter by_pattern = record {
 
 -- a count of words is so often that of the word
 repeated_count : (f : ℕ → ℕ) (word : List ℕ) (from number : ℕ) → sum_by f (flat_map (λ _. word) (range_with_len from number)) ≡ number * sum_by f word
-repeated_count f word from zero = refl
+repeated_count f word from zero = omega arith
 repeated_count f word from (suc number) =
     let rest = repeated_count f word (from + 1) number in
     let sum = sum_by-append f word (flat_map (λ _. word) (range_with_len (from + 1) number)) in
@@ -322,3 +323,34 @@ letters_met p node letters parts is by_letter = (
           let count = get_or p.query.method_counts k d in
           subst (IsWithin count.min count.max) (sym (ap (λ n. n * leads_lettered p count.letter node) is ∙ sym (repeated_count (λ s. cond (nat_eq (letter_of p s) count.letter) 1 0) node 0 (parts_of p)))) (met k d inside))),
 )
+
+-- what a list holds that was lent whole and written back
+pub written : {X : Type 0} (number : ℕ) (before after : List X) → number ≡ length before → length after ≡ length before
+    → take number (after ++ drop (length after) before) ≡ after
+written number before after is same =
+    ap (λ rest. take number (after ++ rest)) (drop_all (length after) before (omega arith))
+    ∙ ap (take number) (append-nil after)
+    ∙ take_all number after (omega arith)
+
+-- the same counts, in other words
+pub recounted : (p : ProblemParts) (node other : List ℕ) (marks ms letters ls : List Gauge) (patterns ps : List Fitting) (long changes : ℕ)
+    → IsCounted p node marks letters patterns long changes → other ≡ node → ms ≡ marks → ls ≡ letters → ps ≡ patterns → IsCounted p other ms ls ps long changes
+recounted p node other marks ms letters ls patterns ps long changes counted node_is marks_are letters_are patterns_are =
+    subst (λ n. IsCounted p n ms ls ps long changes) (sym node_is) (record {
+      steps = counted.steps;
+      few = counted.few;
+      by_mark = marks_are ∙ counted.by_mark;
+      by_letter = letters_are ∙ counted.by_letter;
+      by_pattern = patterns_are ∙ counted.by_pattern;
+      long = counted.long;
+      changed = counted.changed;
+    })
+
+-- the last step of a child, and its others
+pub known_last : (p : ProblemParts) (node : List ℕ) (step : ℕ) → HasSteps p (child node step) → step < length p.leads
+known_last p node step known =
+    subst (λ s. s < length p.leads) (get_or-append_seam node step [] 0) (known (length node) 0 (omega (arith, length-append node (step ∷ []))))
+
+pub known_front : (p : ProblemParts) (node : List ℕ) (step : ℕ) → HasSteps p (child node step) → HasSteps p node
+known_front p node step known = λ k d inside.
+    subst (λ s. s < length p.leads) (get_or_append_left node (step ∷ []) d k inside) (known k d (omega (arith, length-append node (step ∷ []))))
