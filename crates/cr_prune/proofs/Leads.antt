@@ -150,3 +150,6 @@ repeat_told p node rows fresh leads are all differ = elim (eqb_tells fresh leads
       false_from_ne_true (rows_differ (rows_of p node)) (λ same. not_fresh p node rows fresh are (λ whole. e.1 (whole ∙ sym all)) ((rows_differ_decided (rows_of p node)).0 same)) in
       ap not (e.0 ∙ sym again)
 ]
+
+pub same_last : (from head : List ℕ) (changes lead : List Places) → from ≡ head → changes ≡ lead → last_of from (rows_from from changes) ≡ last_of head (rows_from head lead)
+same_last from head changes lead begin is = ap (λ row. last_of row (rows_from row changes)) begin ∙ ap (λ cs. last_of head (rows_from head cs)) is

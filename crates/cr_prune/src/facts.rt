@@ -1,6 +1,6 @@
 //! What is found of a problem once, for all of its nodes.
 
-ghost use Rattle.std.specs.Prelude.{◌≡◌, ℕ, ◌<◌, false, not, [], ◌∷◌, length, get_or};
+ghost use Rattle.std.specs.Prelude.{◌≡◌, ℕ, ◌<◌, false, not, nat_abs, nat_lt, [], ◌∷◌, length, get_or};
 ghost use Rattle.cr_model.specs.Problems.{ProblemParts};
 ghost use Rattle.cr_model.specs.Callings.{rows_of};
 ghost use Rattle.cr_model.specs.Decided.{rows_differ};
@@ -9,7 +9,7 @@ ghost use Rattle.cr_prune.specs.Facts.{AreFacts};
 
 use crate::repeats::repeats;
 use cr_leads::LeadTable;
-use cr_model::Problem;
+use cr_model::{Problem, Query};
 use cr_query::turn_free;
 
 /// Numbers of a problem, and which of its leads are false in themselves.
@@ -37,11 +37,18 @@ impl Facts {
             cap: problem.cap(),
             part_cap: problem.part_cap(),
             shortest: problem.shortest(),
-            several: query.parts.unsigned_abs() > 1,
+            several: has_several_parts(query),
             turn_free: turn_free(query),
             false_leads: false_leads(leads),
         }
     }
+}
+
+// Whether a query asks for several parts.
+fn has_several_parts(query: &Query) -> bool
+    ensures { result ≡ nat_lt 1 (nat_abs query.now.parts) }
+{
+    query.parts.unsigned_abs() > 1
 }
 
 // Which leads have a row twice, by step number.

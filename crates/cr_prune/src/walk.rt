@@ -1,14 +1,15 @@
 //! A walk through the nodes of a problem.
 
-ghost use Rattle.std.specs.Prelude.{◌≡◌, ◌+◌, ◌-◌, ◌<◌, ◌≤◌, ◌↔◌, ℕ, Bool, true, false, not, nat_lt, [], ◌∷◌, ◌++◌, length, take, get_or, All, Some, List, IsTrue, IfOk};
+ghost use Rattle.std.specs.Prelude.{◌≡◌, ◌+◌, ◌-◌, ◌<◌, ◌≤◌, ◌↔◌, ℕ, Bool, true, false, not, ◌||◌, nat_lt, [], ◌∷◌, ◌++◌, length, take, get_or, All, Some, List, IsTrue, IfOk};
 ghost use Rattle.cr_row.specs.Rows.{rounds};
 ghost use Rattle.cr_model.specs.Problems.{ProblemParts};
-ghost use Rattle.cr_model.specs.Callings.{changes_of, rows_of, length_of, head_of, HasSteps};
+ghost use Rattle.cr_model.specs.Callings.{changes_at, changes_of, rows_of, length_of, head_of, HasSteps};
 ghost use Rattle.cr_model.specs.Queries.{part_cap};
 ghost use Rattle.cr_model.specs.OneTurn.{touch_of};
 ghost use Rattle.cr_model.specs.Decided.{rows_differ};
 ghost use Rattle.cr_model.specs.Dead.{parts_of, is_home, is_too_many, is_too_few};
 ghost use Rattle.cr_model.specs.Sizes.{child};
+ghost use Rattle.cr_model.specs.Sound.{IsSound};
 ghost use Rattle.cr_model.specs.Turning.{TurnsBack, IsLeastRotation};
 ghost use Rattle.cr_leads.specs.Tables.{lead_table};
 ghost use Rattle.cr_query.specs.declared.meter.Hopeless.TheVariants.{TooMany, TooFew};
@@ -22,7 +23,7 @@ use crate::rows::Rows;
 use cr_leads::LeadTable;
 use cr_model::laws::joined_callings_multiply;
 use cr_model::limits::MOST_LEAD_CHANGES;
-use cr_model::Problem;
+use cr_model::{Lead, Problem};
 use cr_query::{Hopeless, Meter};
 use cr_rotate::Period;
 use cr_row::{Change, NoMemory, Row};
@@ -90,10 +91,7 @@ impl<'a> Walk<'a> {
         let changes = changes_of(self.problem, step);
         let number = self.steps.steps().len();
         let rung = from.rung + changes.len() as u64;
-        let head = match self.rows.ring(number, from.head, changes) {
-            Some(head) => head,
-            None => head_after(leads, from.head, step),
-        };
+        let head = ring(&mut self.rows, leads, number, from.head, step, changes);
         self.ends.push(LeadEnd { head, rung });
         self.meter.add_lead(leads, step, &from.head);
         self.steps.push(step);
@@ -124,6 +122,7 @@ impl<'a> Walk<'a> {
     }
 
     /// The last row of the node, or rounds where it has no steps.
+    #[tactic(auto, using(crate::proofs::Limits::head_long))]
     pub fn head(&self) -> Row
         ensures is { result ≡ head_of self.now.problem self.now.node }
         ensures same_stage { length result ≡ self.now.problem.stage }
@@ -135,7 +134,9 @@ impl<'a> Walk<'a> {
     pub fn length(&self) -> u64
         ensures is { result ≡ length_of self.now.problem self.now.node }
         ensures within { result ≤ room_of self.now.problem }
+        ensures few { result ≤ 12128 }
     {
+        let _ = self.problem.stage();
         self.ends.last().rung
     }
 
@@ -196,16 +197,50 @@ impl<'a> Walk<'a> {
     /// Whether rounds comes too early in a node whose rows differ: before its last row, or there where there are
     /// several parts.
     pub fn is_home(&self, several: bool) -> bool
-        requires some { 0 < length self.now.node }
         requires differ { rows_differ (rows_of self.now.problem self.now.node) ≡ true }
         requires several { several ≡ nat_lt 1 (parts_of self.now.problem) }
         ensures { result ≡ is_home self.now.problem self.now.node }
     {
         let rounds = Row::rounds(self.problem.stage());
         match self.rows.place_of(&rounds) {
-            Some(place) => several || place + 1 < self.length(),
+            Some(place) => is_early(place, self.length(), several),
             None => false,
         }
+    }
+}
+
+// Whether a place is before the last of so many, or there are several parts.
+fn is_early(place: u64, length: u64, several: bool) -> bool
+    requires { place < length }
+    ensures { result ≡ (several || nat_lt (place + 1) length) }
+{
+    several || place + 1 < length
+}
+
+// Rings one more lead, of these changes, from the head of so many, and gives the head after it.
+fn ring(
+    rows: &mut Rows,
+    leads: &LeadTable,
+    number: usize,
+    from: Row,
+    step: u8,
+    changes: &[Change],
+) -> Row
+    requires staged { All (λ change. change.stage ≡ length from) changes.now }
+    requires room { length rows.old.stack.rows + length changes.now ≤ rows.old.stack.room }
+    requires few { number < 1024 }
+    requires step { step < length leads.now.leads }
+    requires same_stage { length from ≡ leads.now.stage }
+    ensures head { (p : ProblemParts) (node : List ℕ) → leads.now ≡ lead_table p → from ≡ head_of p node
+        → changes.now ≡ changes_of p step → result ≡ head_of p (child node step) }
+    ensures room { rows.new.stack.room ≡ rows.old.stack.room }
+    ensures are { (p : ProblemParts) (node : List ℕ) → number ≡ length node → from ≡ head_of p node
+        → changes.now ≡ changes_of p step → AreRows p node rows.old.stack.rows rows.old.fresh
+        → AreRows p (child node step) rows.new.stack.rows rows.new.fresh }
+{
+    match rows.ring(number, from, changes) {
+        Some(head) => head,
+        None => head_after(leads, from, step),
     }
 }
 
@@ -215,8 +250,18 @@ pub fn changes_of(problem: &Problem, step: u8) -> &[Change]
     ensures is { result.now ≡ changes_of problem.now step }
     ensures staged { All (λ change. change.stage ≡ problem.now.stage) result.now }
     ensures few { length result.now ≤ 128 }
+    ensures sound { IsSound problem.now }
 {
-    let lead = &problem.leads()[usize::from(step)];
+    changes_at(problem.leads(), step)
+}
+
+// The changes of the lead with this number.
+#[tactic(auto, using(cr_model::specs::Callings::changes_at_is))]
+fn changes_at(leads: &[Lead], step: u8) -> &[Change]
+    requires { step < length leads.now }
+    ensures { result.now ≡ changes_at leads.now step }
+{
+    let lead = &leads[usize::from(step)];
     lead.changes.as_slice()
 }
 

@@ -3,3 +3,7 @@ pub mod Words
 pub mod KeptCallings
 pub mod Halves
 pub mod Sizes
+pub mod Edits
+pub mod Moves
+pub mod Raising
+pub mod Metering

@@ -7,6 +7,7 @@ use Rattle.cr_model.specs.Problems.{PatternParts, ProblemParts}
 use Rattle.cr_model.specs.Callings.{shortest, length_of, rows_of, HasSteps}
 use Rattle.cr_model.specs.Dead.{parts_of, leads_left, above_com, below_com}
 use Rattle.cr_model.specs.Queries.{cap, part_cap, leads_marked, leads_lettered, rows_fitting, changes_of_method}
+use Rattle.cr_model.specs.Sizes.{child}
 use Rattle.cr_model.specs.Sound.{IsSound}
 use Rattle.cr_query.specs.declared.kinds.Kind.{Kind}
 use Rattle.cr_query.specs.declared.gauges.Gauge.{Gauge}
@@ -89,18 +90,18 @@ pub record HasNumbers (p : ProblemParts) (numbers : Numbers) : Type 0 where
 
 pub record IsCompiled (p : ProblemParts) (kinds : List Kind) (numbers : Numbers) : Type 0 where
   pub sound : IsSound p
-  pub kinds : kinds ≡ kinds_of p
-  pub numbers : HasNumbers p numbers
+  pub steps : kinds ≡ kinds_of p
+  pub found : HasNumbers p numbers
 
 -- what is counted of a node
-pub record IsCounted (p : ProblemParts) (node : List ℕ) (marks letters : List Gauge) (patterns : List Fitting) (long changes : ℕ) : Type 0 where
+pub record IsCounted (p : ProblemParts) (node : List ℕ) (marks letters : List Gauge) (patterns : List Fitting) (length_now changes : ℕ) : Type 0 where
   pub steps : HasSteps p node
   pub few : length node ≤ 1024
-  pub marks : marks ≡ map (marked p node) p.query.counts
-  pub letters : letters ≡ map (lettered p node) p.query.method_counts
-  pub patterns : patterns ≡ map (fitted p node) p.query.patterns
-  pub long : long ≡ length_of p node
-  pub changes : changes ≡ changes_of_method p node
+  pub by_mark : marks ≡ map (marked p node) p.query.counts
+  pub by_letter : letters ≡ map (lettered p node) p.query.method_counts
+  pub by_pattern : patterns ≡ map (fitted p node) p.query.patterns
+  pub long : length_now ≡ length_of p node
+  pub changed : changes ≡ changes_of_method p node
 
 -- the node after a move, which adds a step or takes the last one back, and after some moves, one after another
 abbrev pub node_after : List ℕ → Option ℕ → List ℕ

@@ -16,12 +16,19 @@ use std::alloc::Global;
 pub fn kinds_of(alloc: Global, problem: &Problem) -> Result<Vec<Kind>, NoMemory>
     ensures { IfOk result (λ kinds. kinds.items ≡ kinds_of problem.now) }
 {
-    let number = problem.leads().len();
-    let mut kinds = Vec::with_capacity(alloc, number)?;
+    let number = step_count(problem);
+    let mut kinds = Vec::with_capacity(alloc, usize::from(number))?;
     for step in 0..number {
-        kinds.push(kind_of(problem, step as u8))?;
+        kinds.push(kind_of(problem, step))?;
     }
     Ok(kinds)
+}
+
+// The number of steps.
+fn step_count(problem: &Problem) -> u8
+    ensures { result ≡ length problem.now.leads }
+{
+    problem.leads().len() as u8
 }
 
 /// The gauges of counts of marks, at no leads. Err where no memory is left.

@@ -1,10 +1,10 @@
 //! Leads of a calling that a query counts.
 
-ghost use Rattle.std.specs.Prelude.{◌≡◌, ◌≤◌, length};
-ghost use Rattle.cr_model.specs.Callings.{HasSteps};
+ghost use Rattle.std.specs.Prelude.{◌≡◌, ◌<◌, ◌≤◌, cond, nat_eq, length};
+ghost use Rattle.cr_model.specs.Callings.{method_of, HasSteps};
 ghost use Rattle.cr_model.specs.Queries.{leads_marked, leads_lettered, changes_of_method};
 
-use crate::kinds::kind_of;
+use crate::kinds::{differs, kind_of};
 use cr_model::Problem;
 
 /// How many leads have the mark.
@@ -42,11 +42,17 @@ pub fn changes_of_method(problem: &Problem, steps: &[u8]) -> u64
 {
     let mut number = 0;
     for index in 1..steps.len() {
-        let before = kind_of(problem, steps[index - 1]);
-        let kind = kind_of(problem, steps[index]);
-        if before.method != kind.method {
-            number += 1;
-        }
+        number += changes(problem, steps[index - 1], steps[index]);
     }
     number
+}
+
+// One where two steps are of different methods, and else none.
+fn changes(problem: &Problem, before: u8, step: u8) -> u64
+    requires before { before < length problem.now.leads }
+    requires step { step < length problem.now.leads }
+    ensures is { result ≡ cond (nat_eq (method_of problem.now before) (method_of problem.now step)) 0 1 }
+    ensures few { result ≤ 1 }
+{
+    differs(kind_of(problem, before), kind_of(problem, step).method)
 }

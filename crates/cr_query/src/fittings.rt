@@ -26,8 +26,7 @@ pub fn raise_rows(fittings: &mut [Fitting], head: &Row, lead: &[Row])
     ensures { fittings.new ≡ map (rows_more head.now lead.now) fittings.old }
 {
     for index in 0..fittings.len() {
-        let more = fittings[index].shape.count_lead(head, lead);
-        fittings[index].number += more;
+        raise_fitting(&mut fittings[index], head, lead);
     }
 }
 
@@ -38,9 +37,7 @@ pub fn lower_rows(fittings: &mut [Fitting], head: &Row, lead: &[Row])
     ensures { fittings.new ≡ map (rows_fewer head.now lead.now) fittings.old }
 {
     for index in 0..fittings.len() {
-        let fewer = fittings[index].shape.count_lead(head, lead);
-        let before = fittings[index].number;
-        fittings[index].number = before.saturating_sub(fewer);
+        lower_fitting(&mut fittings[index], head, lead);
     }
 }
 
@@ -68,4 +65,23 @@ pub fn some_have_fewer(fittings: &[Fitting], more: u64) -> bool
         }
     }
     false
+}
+
+fn raise_fitting(fitting: &mut Fitting, head: &Row, lead: &[Row])
+    requires shape { fitting.old.shape.stage ≡ length head.now }
+    requires lead { All (λ row. length row ≡ length head.now) lead.now }
+    requires short { length lead.now ≤ 128 }
+    requires few { fitting.old.number ≤ 1048576 }
+    ensures { fitting.new ≡ rows_more head.now lead.now fitting.old }
+{
+    fitting.number += fitting.shape.count_lead(head, lead);
+}
+
+fn lower_fitting(fitting: &mut Fitting, head: &Row, lead: &[Row])
+    requires shape { fitting.old.shape.stage ≡ length head.now }
+    requires lead { All (λ row. length row ≡ length head.now) lead.now }
+    ensures { fitting.new ≡ rows_fewer head.now lead.now fitting.old }
+{
+    let fewer = fitting.shape.count_lead(head, lead);
+    fitting.number = fitting.number.saturating_sub(fewer);
 }

@@ -1,9 +1,9 @@
 //! Limits on numbers of leads that go up and down.
 
-ghost use Rattle.std.specs.Prelude.{◌≡◌, ◌*◌, ◌≤◌, ◌↔◌, map, All, IsTrue};
+ghost use Rattle.std.specs.Prelude.{◌≡◌, ◌+◌, ◌*◌, ◌≤◌, ◌↔◌, map, All, IsTrue};
 ghost use Rattle.std.specs.List.{list_any};
 ghost use Rattle.cr_model.specs.Queries.{IsWithin};
-ghost use Rattle.cr_query.specs.Gauges.{hit, raised, lowered, is_above, is_below, AreFew};
+ghost use Rattle.cr_query.specs.Gauges.{hit, raised, perhaps_raised, lowered, is_above, is_below, AreFew};
 
 use crate::limits::{exceeds, falls_short, is_within};
 use crate::numbers::in_parts;
@@ -36,58 +36,29 @@ pub fn lower(gauges: &mut [Gauge], of: u8)
     }
 }
 
-/// Whether in so many parts some number is above its greatest.
-pub fn some_above(gauges: &[Gauge], parts: u64) -> bool
+/// Whether in so many parts some number is above its greatest, where perhaps one lead more has this mark or letter.
+pub fn some_above(gauges: &[Gauge], of: Option<u8>, parts: u64) -> bool
     requires parts { parts ≤ 64 }
     requires few { AreFew gauges.now }
-    ensures { result ≡ list_any (is_above parts) gauges.now }
+    ensures { result ≡ list_any (λ gauge. is_above parts (perhaps_raised of gauge)) gauges.now }
 {
     for gauge in gauges {
-        if is_above(*gauge, parts) {
+        if is_above(perhaps_raised(*gauge, of), parts) {
             return true;
         }
     }
     false
 }
 
-/// Whether in so many parts some number, with so many more in each part, is below its least.
-pub fn some_below(gauges: &[Gauge], parts: u64, more: u64) -> bool
+/// Whether in so many parts some number, with so many more in each part, is below its least. The same of the lead.
+pub fn some_below(gauges: &[Gauge], of: Option<u8>, parts: u64, more: u64) -> bool
     requires parts { parts ≤ 64 }
     requires more { more ≤ 12000 }
     requires few { AreFew gauges.now }
-    ensures { result ≡ list_any (is_below parts more) gauges.now }
+    ensures { result ≡ list_any (λ gauge. is_below parts more (perhaps_raised of gauge)) gauges.now }
 {
     for gauge in gauges {
-        if is_below(*gauge, parts, more) {
-            return true;
-        }
-    }
-    false
-}
-
-/// The same, with one lead more that has this mark or letter.
-pub fn some_above_with(gauges: &[Gauge], of: u8, parts: u64) -> bool
-    requires parts { parts ≤ 64 }
-    requires few { AreFew gauges.now }
-    ensures { result ≡ list_any (λ gauge. is_above parts (raised of gauge)) gauges.now }
-{
-    for gauge in gauges {
-        if is_above(raised(*gauge, of), parts) {
-            return true;
-        }
-    }
-    false
-}
-
-/// The same, with one lead more that has this mark or letter.
-pub fn some_below_with(gauges: &[Gauge], of: u8, parts: u64, more: u64) -> bool
-    requires parts { parts ≤ 64 }
-    requires more { more ≤ 12000 }
-    requires few { AreFew gauges.now }
-    ensures { result ≡ list_any (λ gauge. is_below parts more (raised of gauge)) gauges.now }
-{
-    for gauge in gauges {
-        if is_below(raised(*gauge, of), parts, more) {
+        if is_below(perhaps_raised(*gauge, of), parts, more) {
             return true;
         }
     }
@@ -100,18 +71,39 @@ pub fn all_within(gauges: &[Gauge], parts: u64) -> bool
     requires few { AreFew gauges.now }
     ensures { IsTrue result ↔ All (λ gauge. IsWithin gauge.min gauge.max (parts * gauge.number)) gauges.now }
 {
-    for gauge in gauges {
-        if !is_within(gauge.min, gauge.max, in_parts(parts, gauge.number)) {
+    for index in 0..gauges.len() {
+        if !is_met(gauges[index], parts) {
             return false;
         }
     }
     true
 }
 
+fn is_met(gauge: Gauge, parts: u64) -> bool
+    requires parts { parts ≤ 64 }
+    requires few { gauge.number ≤ 1026 }
+    ensures { IsTrue result ↔ IsWithin gauge.min gauge.max (parts * gauge.number) }
+{
+    is_within(gauge.min, gauge.max, in_parts(parts, gauge.number))
+}
+
+// The gauge after perhaps one lead more with this mark or letter.
+fn perhaps_raised(gauge: Gauge, of: Option<u8>) -> Gauge
+    requires { gauge.number ≤ 1025 }
+    ensures is { result ≡ perhaps_raised of gauge }
+    ensures few { result.number ≤ gauge.number + 1 }
+{
+    match of {
+        Some(of) => raised(gauge, of),
+        None => gauge,
+    }
+}
+
 // The gauge after one lead more with this mark or letter.
 fn raised(gauge: Gauge, of: u8) -> Gauge
     requires { gauge.number ≤ 1026 }
-    ensures { result ≡ raised of gauge }
+    ensures is { result ≡ raised of gauge }
+    ensures few { result.number ≤ gauge.number + 1 }
 {
     Gauge {
         of: gauge.of,

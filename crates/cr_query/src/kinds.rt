@@ -1,6 +1,6 @@
 //! What a query counts a step by.
 
-ghost use Rattle.std.specs.Prelude.{◌≡◌, ◌<◌, length};
+ghost use Rattle.std.specs.Prelude.{◌≡◌, ◌<◌, ◌≤◌, cond, nat_eq, length};
 ghost use Rattle.cr_model.specs.Callings.{step_at, changes_at};
 ghost use Rattle.cr_query.specs.Kinds.{kind_of};
 
@@ -29,6 +29,14 @@ pub fn kind_of(problem: &Problem, step: u8) -> Kind
         letter,
         length,
     }
+}
+
+/// One where the kind is of another method.
+pub fn differs(kind: Kind, method: u8) -> u64
+    ensures is { result ≡ cond (nat_eq kind.method method) 0 1 }
+    ensures few { result ≤ 1 }
+{
+    if kind.method == method { 0 } else { 1 }
 }
 
 // The step of the lead at an index.

@@ -16,6 +16,7 @@ mod nodes;
 mod numbers;
 mod parts;
 mod shape;
+mod telling;
 mod turning;
 
 pub use keeping::is_kept;

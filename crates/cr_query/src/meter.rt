@@ -6,24 +6,21 @@ ghost use Rattle.cr_model.specs.Callings.{head_of};
 ghost use Rattle.cr_model.specs.Dead.{is_too_many, is_too_few};
 ghost use Rattle.cr_model.specs.OneTurn.{touch_of};
 ghost use Rattle.cr_model.specs.Sizes.{child};
-ghost use Rattle.cr_query.specs.Kinds.{kind_of};
 ghost use Rattle.cr_query.specs.Meeting.{MeetsCounts, MeetsMethodCounts};
 ghost use Rattle.cr_query.specs.Meters.{meter_from, parent, has_too_many_leads, has_too_few_leads, has_too_few_rows, is_hopeless_by_leads};
 ghost use Rattle.cr_query.specs.declared.meter.Hopeless.TheVariants.{TooMany, TooFew};
 
 use crate::compiling::{fittings_of, kinds_of, letters_of, marks_of};
 use crate::fittings::{Fitting, lower_rows, raise_rows, some_have_fewer, some_have_more};
-use crate::gauges::{
-    Gauge, all_within, lower, raise, some_above, some_above_with, some_below, some_below_with,
-};
+use crate::gauges::{Gauge, all_within, lower, raise};
 use crate::kinds::Kind;
 use crate::meeting::{counts_of, method_counts_of, patterns_of};
-use crate::limits::{is_above_com, is_below_com};
-use crate::nodes::{change_to, cut, put};
-use crate::numbers::{Numbers, in_parts, leads_left, numbers_of, with_joins};
+use crate::nodes::{change_to, cut, kind_at, put};
+use crate::numbers::{Numbers, leads_left, numbers_of};
+use crate::telling::{has_too_few_leads, has_too_many_leads, is_hopeless};
 use cr_leads::LeadTable;
 use cr_model::Problem;
-use cr_model::laws::joined_callings_multiply;
+use cr_model::laws::{joined_callings_multiply, ringing_on};
 use cr_row::{NoMemory, Row};
 use std::alloc::Global;
 use std::marker::Model;
@@ -60,6 +57,7 @@ pub struct Meter {
 
 impl Model for Meter {
     ghost use Rattle.std.specs.Prelude.{◌≤◌, vec_capacity};
+    ghost use Rattle.cr_query.specs.Gauges.{HasSmallNumbers, HasSmallCounts};
     ghost use Rattle.cr_query.specs.Meters.{MeterParts, meter_from, IsCompiled, IsCounted};
 
     ghost Value = { MeterParts };
@@ -69,6 +67,8 @@ impl Model for Meter {
     ghost invariant = { λ m.
         IsCompiled m.problem m.kinds.items m.numbers
         × IsCounted m.problem m.steps.items m.marks.items m.letters.items m.patterns.items m.length m.changes
+        × HasSmallNumbers m.numbers
+        × HasSmallCounts m.marks.items m.letters.items m.patterns.items m.length m.changes
         × (1024 ≤ vec_capacity m.steps) };
 }
 
@@ -108,7 +108,8 @@ impl Meter {
         ensures { self.new ≡ record { problem = self.old.problem; node = child self.old.node step } }
     {
         joined_callings_multiply();
-        let kind = self.kinds[usize::from(step)];
+        ringing_on();
+        let kind = kind_at(&self.kinds, step);
         self.changes += change_to(&self.kinds, &self.steps, kind.method);
         self.length += kind.length;
         raise(&mut self.marks, kind.mark);
@@ -126,7 +127,8 @@ impl Meter {
         ensures { self.new ≡ record { problem = self.old.problem; node = parent self.old.node } }
     {
         joined_callings_multiply();
-        let kind = self.kinds[usize::from(step)];
+        ringing_on();
+        let kind = kind_at(&self.kinds, step);
         cut(&mut self.steps);
         lower_rows(&mut self.patterns, from, leads.rows_of(step));
         lower(&mut self.letters, kind.letter);
@@ -155,8 +157,14 @@ impl Meter {
         requires { step < length self.now.problem.leads }
         ensures { result ≡ is_hopeless_by_leads self.now.problem (child self.now.node step) }
     {
-        let kind = self.kinds[usize::from(step)];
-        self.has_too_many_leads_with(step, kind) || self.has_too_few_leads_with(step, kind)
+        if self.asks_nothing_of_leads() {
+            return false;
+        }
+        ringing_on();
+        let kind = kind_at(&self.kinds, step);
+        let changes = self.changes + change_to(&self.kinds, &self.steps, kind.method);
+        let left = leads_left(self.numbers, self.length + kind.length);
+        is_hopeless(self.numbers, &self.marks, &self.letters, Some(kind), changes, left)
     }
 
     /// Whether the node's touch, which is so many times the node as the query has parts, meets each count of
@@ -165,8 +173,19 @@ impl Meter {
         ensures { IsTrue result ↔ (MeetsCounts self.now.problem (touch_of self.now.problem self.now.node)
             × MeetsMethodCounts self.now.problem (touch_of self.now.problem self.now.node)) }
     {
-        let parts = self.numbers.parts;
-        all_within(&self.marks, parts) && all_within(&self.letters, parts)
+        self.meets_mark_counts() && self.meets_method_counts()
+    }
+
+    fn meets_mark_counts(&self) -> bool
+        ensures { IsTrue result ↔ MeetsCounts self.now.problem (touch_of self.now.problem self.now.node) }
+    {
+        all_within(&self.marks, self.numbers.parts)
+    }
+
+    fn meets_method_counts(&self) -> bool
+        ensures { IsTrue result ↔ MeetsMethodCounts self.now.problem (touch_of self.now.problem self.now.node) }
+    {
+        all_within(&self.letters, self.numbers.parts)
     }
 
     fn has_too_many(&self) -> bool
@@ -184,10 +203,7 @@ impl Meter {
     fn has_too_many_leads(&self) -> bool
         ensures { result ≡ has_too_many_leads self.now.problem self.now.node }
     {
-        let numbers = self.numbers;
-        some_above(&self.marks, numbers.parts)
-            || some_above(&self.letters, numbers.parts)
-            || is_above_com(numbers.com, in_parts(numbers.parts, self.changes))
+        has_too_many_leads(self.numbers, &self.marks, &self.letters, None, self.changes)
     }
 
     fn has_too_few_leads(&self) -> bool
@@ -196,11 +212,8 @@ impl Meter {
         if self.asks_nothing_of_leads() {
             return false;
         }
-        let numbers = self.numbers;
-        let left = leads_left(numbers, self.length);
-        some_below(&self.marks, numbers.parts, left)
-            || some_below(&self.letters, numbers.parts, left)
-            || is_below_com(numbers.com, with_joins(numbers.parts, self.changes + left))
+        let left = leads_left(self.numbers, self.length);
+        has_too_few_leads(self.numbers, &self.marks, &self.letters, None, self.changes, left)
     }
 
     fn has_too_few_rows(&self) -> bool
@@ -209,38 +222,10 @@ impl Meter {
         some_have_fewer(&self.patterns, self.numbers.most.saturating_sub(self.length))
     }
 
-    // The same with this step more, which is of this kind.
-    fn has_too_many_leads_with(&self, step: u8, kind: Kind) -> bool
-        requires step { step < length self.now.problem.leads }
-        requires kind { kind ≡ kind_of self.now.problem step }
-        ensures { result ≡ has_too_many_leads self.now.problem (child self.now.node step) }
-    {
-        let numbers = self.numbers;
-        let changes = self.changes + change_to(&self.kinds, &self.steps, kind.method);
-        some_above_with(&self.marks, kind.mark, numbers.parts)
-            || some_above_with(&self.letters, kind.letter, numbers.parts)
-            || is_above_com(numbers.com, in_parts(numbers.parts, changes))
-    }
-
-    fn has_too_few_leads_with(&self, step: u8, kind: Kind) -> bool
-        requires step { step < length self.now.problem.leads }
-        requires kind { kind ≡ kind_of self.now.problem step }
-        ensures { result ≡ has_too_few_leads self.now.problem (child self.now.node step) }
-    {
-        if self.asks_nothing_of_leads() {
-            return false;
-        }
-        let numbers = self.numbers;
-        let changes = self.changes + change_to(&self.kinds, &self.steps, kind.method);
-        let left = leads_left(numbers, self.length + kind.length);
-        some_below_with(&self.marks, kind.mark, numbers.parts, left)
-            || some_below_with(&self.letters, kind.letter, numbers.parts, left)
-            || is_below_com(numbers.com, with_joins(numbers.parts, changes + left))
-    }
-
     // Whether the query has no counts and no limits on changes of method.
     fn asks_nothing_of_leads(&self) -> bool
-        ensures { result ≡ true → (node : List ℕ) → has_too_few_leads self.now.problem node ≡ false }
+        ensures { result ≡ true → (node : List ℕ)
+            → (has_too_many_leads self.now.problem node ≡ false) × (has_too_few_leads self.now.problem node ≡ false) }
     {
         self.marks.is_empty() && self.letters.is_empty() && self.numbers.com.is_none()
     }

@@ -1,9 +1,19 @@
 //! Nodes, as lists of steps that grow and shrink at their end.
 
 ghost use Rattle.std.specs.Prelude.{◌≡◌, ◌-◌, ◌<◌, ◌≤◌, cond, nat_eq, [], ◌∷◌, ◌++◌, length, take, All, vec_len, vec_capacity};
-ghost use Rattle.cr_query.specs.Meters.{change_between};
+ghost use Rattle.cr_model.specs.Problems.{ProblemParts};
+ghost use Rattle.cr_query.specs.Kinds.{kind_of};
+ghost use Rattle.cr_query.specs.Meters.{kinds_of, change_between};
 
-use crate::kinds::Kind;
+use crate::kinds::{Kind, differs};
+
+/// The kind of a step, among those of all steps.
+pub fn kind_at(kinds: &[Kind], step: u8) -> Kind
+    requires { step < length kinds.now }
+    ensures { (p : ProblemParts) → kinds.now ≡ kinds_of p → result ≡ kind_of p step }
+{
+    kinds[usize::from(step)]
+}
 
 /// One where a step of this method changes the method after the node, and else none. The kinds are those of
 /// all steps.
@@ -16,14 +26,6 @@ pub fn change_to(kinds: &[Kind], node: &[u8], method: u8) -> u64
         Some(last) => differs(kinds[usize::from(*last)], method),
         None => 0,
     }
-}
-
-// One where the kind is of another method.
-fn differs(kind: Kind, method: u8) -> u64
-    ensures is { result ≡ cond (nat_eq kind.method method) 0 1 }
-    ensures few { result ≤ 1 }
-{
-    if kind.method == method { 0 } else { 1 }
 }
 
 /// Appends a step to a node that has room for it.

@@ -1,8 +1,10 @@
 //! Numbers of a problem that are found once.
 
-ghost use Rattle.std.specs.Prelude.{◌≡◌, ◌+◌, ◌-◌, ◌*◌, ◌/◌, ◌≤◌};
+ghost use Rattle.std.specs.Prelude.{◌≡◌, ◌+◌, ◌-◌, ◌*◌, ◌≤◌};
+ghost use Rattle.cr_query.specs.Gauges.{room_left, HasSmallNumbers};
 ghost use Rattle.cr_query.specs.Meters.{HasNumbers};
 
+use crate::meeting::com_of;
 use crate::parts::parts_of;
 use cr_model::{Com, Problem};
 
@@ -19,14 +21,15 @@ pub struct Numbers {
 
 /// The numbers of a problem.
 pub fn numbers_of(problem: &Problem) -> Numbers
-    ensures { HasNumbers problem.now result }
+    ensures is { HasNumbers problem.now result }
+    ensures small { HasSmallNumbers result }
 {
     Numbers {
         parts: parts_of(problem),
         most: problem.cap(),
         part_most: problem.part_cap(),
         shortest: problem.shortest(),
-        com: problem.query().com,
+        com: com_of(problem.query()),
     }
 }
 
@@ -34,7 +37,7 @@ pub fn numbers_of(problem: &Problem) -> Numbers
 pub fn leads_left(numbers: Numbers, length: u64) -> u64
     requires some { 1 ≤ numbers.shortest }
     requires few { numbers.part_most ≤ 12000 }
-    ensures is { result ≡ (numbers.part_most - length) / numbers.shortest }
+    ensures is { result ≡ room_left numbers length }
     ensures few { result ≤ 12000 }
 {
     numbers.part_most.saturating_sub(length) / numbers.shortest
