@@ -1,5 +1,5 @@
 -- Turns are finished work.
-use Rattle.std.proofs.Common.{◌≡◌, ℕ, zero, suc, ◌+◌, ◌≤◌, ◌↔◌, ◌⊎◌, List, [], ◌∷◌, ◌++◌, length, reverse, take, drop, take_at, drop_at, All, inl, inr, refl, sym, ap, ◌∙◌, subst, arith}
+use Rattle.std.proofs.Common.{◌≡◌, ℕ, zero, suc, ◌+◌, ◌<◌, ◌≤◌, ◌↔◌, ◌⊎◌, List, [], ◌∷◌, ◌++◌, length, reverse, take, drop, take_at, drop_at, All, inl, inr, refl, sym, ap, ◌∙◌, subst, arith}
 use Rattle.std.proofs.lemmas.List.{reverse-append, reverse-reverse, length_push}
 use Rattle.std.proofs.lemmas.List.Elements.{All-head, All-same, All-take, All-drop}
 use Rattle.std.proofs.lemmas.List.Sums.{sum_by-cons}
@@ -99,3 +99,11 @@ size_is_turns p job number after some is = (
     | inr all ↦ none_of_no_size p some after.rest (omega (arith, is.done.size, all))
   ],
 )
+
+-- what is left is a job
+pub rest_is_job : (p : ProblemParts) (job found rest : List (List ℕ)) (used : ℕ) → IsDone p job found rest used → 0 < length rest → IsJob p rest
+rest_is_job p job found rest used done some = record {
+  some = some;
+  valid = λ k d inside. (done.splits.rest_valid k d inside).0;
+  independent = record { nodes_apart = done.splits.independent.nodes_apart; found_apart = λ i j inside within. absurd (omega (arith, within)) };
+}

@@ -55,6 +55,7 @@ module _ (p : ProblemParts) (node : List ℕ) where
       no_patterns : (patterns : List PatternParts) → length patterns ≡ 0 → patterns ≡ []
       no_patterns [] none = refl
       no_patterns (x ∷ xs) none = absurd (omega arith)
+
       no_limits : (limits : Option Com) → is_none limits ≡ true → limits ≡ None
       no_limits None h = refl
       no_limits (Some limits) h = absurd (false≢true h)

@@ -1,6 +1,6 @@
 //! Laws of turns. Each is the contract of a function that does nothing but call other laws.
 
-ghost use Rattle.std.specs.Prelude.{◌≡◌, ℕ, ◌+◌, ◌≤◌, ◌↔◌, ◌⊎◌, List, [], ◌∷◌, ◌++◌, reverse, All, IsPermutation};
+ghost use Rattle.std.specs.Prelude.{◌≡◌, ℕ, ◌+◌, ◌<◌, ◌≤◌, ◌↔◌, ◌⊎◌, List, [], ◌∷◌, ◌++◌, length, reverse, All, IsPermutation};
 ghost use Rattle.cr_model.specs.Examples.{minimus, pair, asks};
 ghost use Rattle.cr_model.specs.Problems.{ProblemParts};
 ghost use Rattle.cr_model.specs.Nodes.{nodes_above, times_found, Independent, Splits};
@@ -89,3 +89,9 @@ pub fn turns_find_all_that_is_kept()
     a_job_without_rest_is_found_whole();
     turns_are_finished_work();
 }
+
+/// What finished work left, if there is something, is a job.
+pub fn what_is_left_is_a_job()
+    ensures { (p : ProblemParts) (job found rest : List (List ℕ)) (used : ℕ) → IsDone p job found rest used
+        → 0 < length rest → IsJob p rest }
+{}

@@ -72,13 +72,7 @@ impl Explorer for RowSearch {
         let explored = take_turns(alloc, &mut path, job, turns)?;
         let problem = self.problem.copy(alloc)?;
         let nodes = copied(alloc, job)?;
-        Ok(Done::new(
-            problem,
-            nodes,
-            explored.found,
-            explored.rest,
-            explored.used,
-        ))
+        Ok(Done::new(problem, nodes, explored.found, explored.rest, explored.used))
     }
 }
 

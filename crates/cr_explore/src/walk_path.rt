@@ -1,19 +1,19 @@
 //! A path by a walk and a pruner.
 
-ghost use Rattle.std.specs.Prelude.{◌≡◌, ℕ, ◌<◌, ◌≤◌, ◌↔◌, [], length, true, IsTrue, IfOk};
-ghost use Rattle.cr_model.specs.Sizes.{most_rows, child};
+ghost use Rattle.std.specs.Prelude.{◌≡◌, [], IfOk};
+ghost use Rattle.cr_model.specs.Sizes.{most_rows};
 ghost use Rattle.cr_leads.specs.Tables.{lead_table};
 ghost use Rattle.cr_reach.specs.Tables.{reach_table};
-ghost use Rattle.cr_explore.specs.Stacks.{is_live};
 
+use crate::keeping::is_touch_kept;
 use crate::path::Path;
-use crate::touches::{parts_of, touch_of};
+use crate::walking::{go_down, go_to, go_up};
 use cr_leads::LeadTable;
 use cr_model::Problem;
+use cr_model::laws::a_test_decides_what_is_kept;
 use cr_prune::{Pruner, Walk};
-use cr_query::{is_kept, turn_free};
 use cr_reach::ReachTable;
-use cr_row::{NoMemory, Row};
+use cr_row::NoMemory;
 use std::alloc::Global;
 use std::marker::Model;
 
@@ -76,18 +76,22 @@ impl<'a> Path for WalkPath<'a> {
     }
 
     fn go_to(&mut self, steps: &[u8]) {
+        let _ = self.problem.stage();
         go_to(&mut self.walk, steps);
     }
 
     fn down(&mut self, from: u8) -> Option<u8> {
-        first_live(&mut self.walk, &self.pruner, from, self.leads.count())
+        let _ = self.problem.stage();
+        let count = self.leads.count();
+        go_down(&mut self.walk, &self.pruner, from, count)
     }
 
     fn up(&mut self) -> u8 {
-        up(&mut self.walk)
+        go_up(&mut self.walk)
     }
 
     fn is_kept(&mut self, alloc: Global) -> Result<bool, NoMemory> {
-        is_kept_at(alloc, self.problem, self.leads, &self.walk)
+        a_test_decides_what_is_kept();
+        is_touch_kept(alloc, self.problem, self.leads, &self.walk)
     }
 }
