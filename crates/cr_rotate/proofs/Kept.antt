@@ -137,6 +137,10 @@ pub told_turned : (word : List ℕ) (p : ℕ) → Tells word (length word) p →
 told_turned word zero told = (λ e. turned_back word told, λ turned. refl)
 told_turned word (suc p) told = (λ e. absurd (omega arith), λ turned. absurd (not_both word (length word) (suc p) told (falls word turned)))
 
+-- the same with one step more
+pub told_turned_with : (word : List ℕ) (x p : ℕ) → Tells (word ++ x ∷ []) (length word + 1) p → (p ≡ 0) ↔ TurnsBack (word ++ x ∷ [])
+told_turned_with word x p told = told_turned (word ++ x ∷ []) p (subst (λ n. Tells (word ++ x ∷ []) n p) (sym (length-append word (x ∷ []))) told)
+
 -- the empty word does not
 pub empty_turns : (word : List ℕ) → length word ≡ 0 → TurnsBack word → ⊥
 empty_turns word none turned = let down = (falls word turned).2 in omega (arith, down.inside)

@@ -81,6 +81,14 @@ impl Period {
         turns(&self.steps, &self.periods)
     }
 
+    /// Whether the word with this step more turns back.
+    #[tactic(auto, using(crate::proofs::Kept::told_turned_with))]
+    pub fn turns_back_with(&self, step: u8) -> bool
+        ensures { IsTrue result ↔ TurnsBack (self.now ++ step ∷ []) }
+    {
+        next_period(&self.steps, &self.periods, step) == 0
+    }
+
     /// Whether no rotation of the word is less than it.
     pub fn is_least(&self) -> bool
         ensures { IsTrue result ↔ IsLeastRotation self.now }
@@ -127,8 +135,7 @@ fn last_period(steps: &[u8], periods: &[u16]) -> u16
 // What is kept for a word with one step more.
 #[tactic(auto, using(crate::proofs::Kept::of_one, crate::proofs::Kept::of_turned, crate::proofs::Kept::of_period))]
 fn next_period(steps: &[u8], periods: &[u16], step: u8) -> u16
-    requires kept { IsKept steps.now periods.now }
-    requires few { length steps.now < 1024 }
+    requires { IsKept steps.now periods.now }
     ensures { Tells (steps.now ++ step ∷ []) (length steps.now + 1) result }
 {
     let length = steps.len();
@@ -146,7 +153,7 @@ fn next_period(steps: &[u8], periods: &[u16], step: u8) -> u16
 #[tactic(auto, using(crate::proofs::Kept::of_same))]
 fn longer(steps: &[u8], period: u16, step: u8) -> u16
     requires front { FrontRepeats steps.now (length steps.now) period }
-    requires few { length steps.now < 1024 }
+    requires few { length steps.now ≤ 1024 }
     ensures { Tells (steps.now ++ step ∷ []) (length steps.now + 1) result }
 {
     let before = steps[steps.len() - usize::from(period)];

@@ -1,0 +1,1 @@
+use Rattle.cr_explore.proofs.search.nodes_left.Goals as goal

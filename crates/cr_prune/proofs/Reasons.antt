@@ -1,0 +1,2 @@
+-- First reasons.
+use Rattle.std.proofs.Common.{ℕ}

@@ -1,0 +1,13 @@
+//! Cutting: a walk through the nodes of a search, and why a node is dead.
+#![tactic(auto)]
+
+mod ends;
+mod facts;
+pub mod laws;
+mod pruner;
+mod repeats;
+mod rows;
+mod walk;
+
+pub use pruner::Pruner;
+pub use walk::Walk;

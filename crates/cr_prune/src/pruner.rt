@@ -1,0 +1,187 @@
+//! Why a node is dead.
+
+ghost use Rattle.std.specs.Prelude.{◌≡◌, ◌+◌, ◌*◌, ◌<◌, ◌≤◌, ℕ, not, nat_lt, [], ◌∷◌, length, find, IfSome};
+ghost use Rattle.cr_model.specs.declared.reason.Reason.TheVariants.{Long, SelfFalse, Again, Home, Far, TooMany, TooFew, TurnsBack};
+ghost use Rattle.cr_model.specs.Callings.{shortest, length_of, rows_of};
+ghost use Rattle.cr_model.specs.Levels.{at_least};
+ghost use Rattle.cr_model.specs.Queries.{cap, part_cap};
+ghost use Rattle.cr_model.specs.Decided.{rows_differ};
+ghost use Rattle.cr_model.specs.Dead.{HasNoneBelow, is_self_false, is_turned_back, holds, dead};
+ghost use Rattle.cr_model.specs.Sizes.{child};
+ghost use Rattle.cr_leads.specs.Tables.{lead_table};
+ghost use Rattle.cr_reach.specs.Tables.{reach_table};
+ghost use Rattle.cr_prune.specs.Pruners.{dies_unrung};
+
+use crate::facts::Facts;
+use crate::walk::{Walk, changes_of, head_after};
+use cr_leads::LeadTable;
+use cr_model::laws::nothing_is_kept_below_a_dead_node;
+use cr_model::{Problem, Reason};
+use cr_query::Hopeless;
+use cr_reach::ReachTable;
+use cr_row::Row;
+use std::marker::Model;
+
+/// Tells why a node has no kept touch below it.
+///
+/// It is seen as the problem and the reach table. What it tells takes no memory, and a time that does not grow
+/// with the node.
+#[derive(Drop)]
+pub struct Pruner<'a> {
+    problem: &'a Problem,
+    leads: &'a LeadTable,
+    reach: &'a ReachTable,
+    facts: Facts,
+}
+
+impl<'a> Model for Pruner<'a> {
+    ghost use Rattle.std.specs.Prelude.{◌≡◌};
+    ghost use Rattle.cr_leads.specs.Tables.{lead_table};
+    ghost use Rattle.cr_prune.specs.Facts.{AreFacts};
+    ghost use Rattle.cr_prune.specs.Pruners.{PrunerParts, pruner_from};
+
+    ghost Value = { PrunerParts };
+
+    ghost view = { λ p. pruner_from p.problem.now p.reach.now };
+
+    ghost invariant = { λ p. (p.leads.now ≡ lead_table p.problem.now) × AreFacts p.problem.now p.facts };
+}
+
+impl<'a> Pruner<'a> {
+    /// The pruner of a problem. It takes no memory.
+    pub fn new(leads: &'a LeadTable, reach: &'a ReachTable, problem: &'a Problem) -> Pruner<'a>
+        requires { leads.now ≡ lead_table problem.now }
+        ensures { result ≡ record { problem = problem.now; reach = reach.now } }
+    {
+        let facts = Facts::of(problem, leads);
+        Pruner {
+            problem,
+            leads,
+            reach,
+            facts,
+        }
+    }
+
+    /// The first reason that holds of the walk's node, with the reach table of the problem for any number of
+    /// rows. Where there is one, no kept touch has the node above it.
+    pub fn dead(&self, walk: &Walk) -> Option<Reason>
+        requires same { walk.now.problem ≡ self.now.problem }
+        requires some { 0 < length walk.now.node }
+        ensures is { (most : ℕ) → self.now.reach ≡ reach_table self.now.problem most
+            → result ≡ dead self.now.problem most walk.now.node }
+        ensures sound { (most : ℕ) → self.now.reach ≡ reach_table self.now.problem most
+            → IfSome result (λ _. HasNoneBelow self.now.problem walk.now.node) }
+    {
+        nothing_is_kept_below_a_dead_node();
+        let _ = self.problem.stage();
+        match self.dead_by_rows(walk) {
+            Some(reason) => Some(reason),
+            None => self.dead_by_query(walk),
+        }
+    }
+
+    /// Whether the child by a step is dead for a reason that needs no row of its last lead but the head: Long,
+    /// SelfFalse, Far, too many or too few leads, or TurnsBack.
+    pub fn dies_unrung(&self, walk: &Walk, step: u8) -> bool
+        requires same { walk.now.problem ≡ self.now.problem }
+        requires step { step < length self.now.problem.leads }
+        requires short { length_of self.now.problem walk.now.node ≤ part_cap self.now.problem }
+        ensures { (most : ℕ) → self.now.reach ≡ reach_table self.now.problem most
+            → result ≡ dies_unrung self.now.problem most (child walk.now.node step) }
+    {
+        let length = walk.length() + changes_of(self.problem, step).len() as u64;
+        self.is_long(length)
+            || self.is_false(step)
+            || self.is_far(length, &head_after(self.leads, walk.head(), step))
+            || walk.is_hopeless_with(step)
+            || self.is_turned_back_with(walk, step)
+    }
+
+    // The first reason that the rows tell.
+    fn dead_by_rows(&self, walk: &Walk) -> Option<Reason>
+        requires same { walk.now.problem ≡ self.now.problem }
+        requires some { 0 < length walk.now.node }
+        ensures { (most : ℕ) → result ≡ find (holds self.now.problem most walk.now.node) (Long ∷ SelfFalse ∷ Again ∷ Home ∷ []) }
+    {
+        if self.is_long(walk.length()) {
+            Some(Reason::Long)
+        } else if self.is_self_false(walk) {
+            Some(Reason::SelfFalse)
+        } else if walk.has_repeat() {
+            Some(Reason::Again)
+        } else if walk.is_home(self.facts.several) {
+            Some(Reason::Home)
+        } else {
+            None
+        }
+    }
+
+    // The first reason that the reach table, the meter and the rotations tell.
+    fn dead_by_query(&self, walk: &Walk) -> Option<Reason>
+        requires same { walk.now.problem ≡ self.now.problem }
+        ensures { (most : ℕ) → self.now.reach ≡ reach_table self.now.problem most
+            → result ≡ find (holds self.now.problem most walk.now.node) (Far ∷ TooMany ∷ TooFew ∷ TurnsBack ∷ []) }
+    {
+        if self.is_far(walk.length(), &walk.head()) {
+            return Some(Reason::Far);
+        }
+        match walk.hopeless() {
+            Some(Hopeless::TooMany) => Some(Reason::TooMany),
+            Some(Hopeless::TooFew) => Some(Reason::TooFew),
+            None if self.is_turned_back(walk) => Some(Reason::TurnsBack),
+            None => None,
+        }
+    }
+
+    // Whether so many rows are more than a part may have.
+    fn is_long(&self, length: u64) -> bool
+        ensures { result ≡ nat_lt (part_cap self.now.problem) length }
+    {
+        length > self.facts.part_cap
+    }
+
+    // Whether the lead of a step has a row twice.
+    fn is_false(&self, step: u8) -> bool
+        requires { step < length self.now.problem.leads }
+        ensures { result ≡ not (rows_differ (rows_of self.now.problem (step ∷ []))) }
+    {
+        let _ = self.problem.leads();
+        self.facts.false_leads[usize::from(step)]
+    }
+
+    // Whether the last lead of the node has a row twice.
+    fn is_self_false(&self, walk: &Walk) -> bool
+        requires same { walk.now.problem ≡ self.now.problem }
+        requires some { 0 < length walk.now.node }
+        ensures { result ≡ is_self_false self.now.problem walk.now.node }
+    {
+        let steps = walk.steps();
+        self.is_false(steps[steps.len() - 1])
+    }
+
+    // Whether home is too far from this head, after so many rows.
+    fn is_far(&self, length: u64, head: &Row) -> bool
+        requires { length ≤ 13000 }
+        ensures { (most : ℕ) → self.now.reach ≡ reach_table self.now.problem most
+            → result ≡ nat_lt (cap self.now.problem) (length + shortest self.now.problem * at_least self.now.problem most head.now) }
+    {
+        let least = u64::from(self.reach.at_least(head));
+        length + self.facts.shortest * least > self.facts.cap
+    }
+
+    // TurnsBack, if the query is the same for all rotations and the node turns back.
+    fn is_turned_back(&self, walk: &Walk) -> bool
+        requires same { walk.now.problem ≡ self.now.problem }
+        ensures { result ≡ is_turned_back self.now.problem walk.now.node }
+    {
+        self.facts.turn_free && walk.turns_back()
+    }
+
+    // The same of the child by a step.
+    fn is_turned_back_with(&self, walk: &Walk, step: u8) -> bool
+        requires same { walk.now.problem ≡ self.now.problem }
+        ensures { result ≡ is_turned_back self.now.problem (child walk.now.node step) }
+    {
+        self.facts.turn_free && walk.turns_back_with(step)
+    }
+}

@@ -1,0 +1,9 @@
+pub mod Fitting
+pub mod Words
+pub mod KeptCallings
+pub mod Halves
+pub mod Sizes
+pub mod Edits
+pub mod Moves
+pub mod Raising
+pub mod Metering

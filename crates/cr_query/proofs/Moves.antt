@@ -1,0 +1,23 @@
+-- A meter's node, move by move.
+use Rattle.std.proofs.Common.{◌≡◌, ℕ, List, [], ◌∷◌, ◌++◌, map, Option, Some, refl, sym, ap, ◌∙◌, append-nil}
+use Rattle.std.proofs.lemmas.List.{append_assoc}
+use Rattle.cr_model.specs.Problems.{ProblemParts}
+use Rattle.cr_query.specs.Meters.{meter_from, node_after, node_after_all, moved_by_all}
+
+-- the moves are the node's
+by_node : (p : ProblemParts) (node : List ℕ) (moves : List (Option ℕ)) → moved_by_all (meter_from p node) moves ≡ meter_from p (node_after_all node moves)
+by_node p node [] = refl
+by_node p node (move ∷ moves) = by_node p (node_after node move) moves
+
+-- steps that are added stand in their order
+added : (node steps : List ℕ) → node_after_all node (map (λ step. Some step) steps) ≡ node ++ steps
+added node [] = sym (append-nil node)
+added node (step ∷ steps) = added (node ++ step ∷ []) steps ∙ append_assoc node (step ∷ []) steps
+
+-- a meter that moved is as one that was led to the same node alone
+pub told_afresh : (p : ProblemParts) (moves : List (Option ℕ))
+    → moved_by_all (meter_from p []) moves ≡ moved_by_all (meter_from p []) (map (λ step. Some step) (node_after_all [] moves))
+told_afresh p moves =
+    by_node p [] moves
+    ∙ ap (meter_from p) (sym (added [] (node_after_all [] moves)))
+    ∙ sym (by_node p [] (map (λ step. Some step) (node_after_all [] moves)))

@@ -1,0 +1,8 @@
+use Rattle.std.proofs.Common.{◌≡◌, true, take}
+use Rattle.std.specs.List.{list_all}
+use Rattle.cr_row.specs.Rows.{product}
+use Rattle.cr_query.specs.Fixing.{is_at}
+use Rattle.cr_query.proofs.shape.product_has_all.Given as goal
+
+abbrev pub invariant-loop-one : goal.invariant-loop-one
+invariant-loop-one l = list_all (is_at (product l.head l.row)) (take l.one-index l.fixed) ≡ true

@@ -1,0 +1,36 @@
+//! Laws of kept callings and of meters. Each is the contract of a function that does nothing but call other laws.
+
+ghost use Rattle.std.specs.Prelude.{◌≡◌, ◌↔◌, ◌⊎◌, ℕ, true, List, [], Option, Some, map};
+ghost use Rattle.cr_model.specs.Problems.{ProblemParts};
+ghost use Rattle.cr_model.specs.Dead.{turn_free, is_too_many, is_too_few};
+ghost use Rattle.cr_model.specs.Nodes.{part_of};
+ghost use Rattle.cr_model.specs.Touches.{Wanted, Kept};
+ghost use Rattle.cr_model.specs.Turning.{IsLeastRotation};
+ghost use Rattle.cr_query.specs.Meters.{meter_from, is_hopeless_by_leads, node_after_all, moved_by_all};
+
+use cr_model::laws::{a_rotation_of_a_wanted_touch_is_wanted, a_touch_is_its_part_repeated};
+use cr_rotate::laws::repeated_words_are_least_where_the_word_is;
+
+/// Where a query has no patterns and no limits on changes of method, a wanted calling is kept exactly where its
+/// part is the least of its rotations.
+pub fn a_wanted_calling_is_kept_where_its_part_is_least()
+    ensures { (p : ProblemParts) (calling : List ℕ) → turn_free p.query ≡ true → Wanted p calling
+        → Kept p calling ↔ IsLeastRotation (part_of p calling) }
+{
+    a_rotation_of_a_wanted_touch_is_wanted();
+    a_touch_is_its_part_repeated();
+    repeated_words_are_least_where_the_word_is();
+}
+
+/// A node that is hopeless by its leads has too many or too few.
+pub fn what_is_hopeless_by_leads_is_hopeless()
+    ensures { (p : ProblemParts) (node : List ℕ) → is_hopeless_by_leads p node ≡ true
+        → (is_too_many p node ≡ true) ⊎ (is_too_few p node ≡ true) }
+{}
+
+/// However a meter came to its node, by leads added and leads taken back, contracts see of it what they see of a
+/// fresh one to which the node's leads were added. So both tell the same.
+pub fn a_meter_tells_of_its_node_alone()
+    ensures { (p : ProblemParts) (moves : List (Option ℕ)) →
+        moved_by_all (meter_from p []) moves ≡ moved_by_all (meter_from p []) (map Some (node_after_all [] moves)) }
+{}

@@ -1,0 +1,29 @@
+//! Whether callings meet the query, which of their rotations is kept, and a meter of nodes.
+#![tactic(auto)]
+
+mod compiling;
+mod counting;
+mod fittings;
+mod fixing;
+mod gauges;
+mod keeping;
+mod kinds;
+pub mod laws;
+mod limits;
+mod meeting;
+mod meter;
+mod nodes;
+mod numbers;
+mod parts;
+mod shape;
+mod telling;
+mod turning;
+
+pub use keeping::is_kept;
+pub use meeting::meets;
+pub use meter::{Hopeless, Meter};
+pub use shape::Shape;
+pub use turning::turn_free;
+
+#[cfg(test)]
+mod tests;

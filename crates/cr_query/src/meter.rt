@@ -1,0 +1,232 @@
+//! Meters: whether a node that grows and shrinks at its end can still come to a touch that meets the query.
+
+ghost use Rattle.std.specs.Prelude.{◌≡◌, ◌<◌, ◌↔◌, ℕ, true, false, List, [], length, Some, IsTrue, IfOk};
+ghost use Rattle.cr_leads.specs.Tables.{lead_table};
+ghost use Rattle.cr_model.specs.Callings.{head_of};
+ghost use Rattle.cr_model.specs.Dead.{is_too_many, is_too_few};
+ghost use Rattle.cr_model.specs.OneTurn.{touch_of};
+ghost use Rattle.cr_model.specs.Sizes.{child};
+ghost use Rattle.cr_query.specs.Meeting.{MeetsCounts, MeetsMethodCounts};
+ghost use Rattle.cr_query.specs.Meters.{meter_from, parent, has_too_many_leads, has_too_few_leads, has_too_few_rows, is_hopeless_by_leads};
+ghost use Rattle.cr_query.specs.declared.meter.Hopeless.TheVariants.{TooMany, TooFew};
+
+use crate::compiling::{fittings_of, kinds_of, letters_of, marks_of};
+use crate::fittings::{Fitting, lower_rows, raise_rows, some_have_fewer, some_have_more};
+use crate::gauges::{Gauge, all_within, lower, raise};
+use crate::kinds::Kind;
+use crate::meeting::{counts_of, method_counts_of, patterns_of};
+use crate::nodes::{change_to, cut, kind_at, put};
+use crate::numbers::{Numbers, leads_left, numbers_of};
+use crate::telling::{has_too_few_leads, has_too_many_leads, is_hopeless};
+use cr_leads::LeadTable;
+use cr_model::Problem;
+use cr_model::laws::{joined_callings_multiply, ringing_on};
+use cr_row::{NoMemory, Row};
+use std::alloc::Global;
+use std::marker::Model;
+
+// The most steps that a node has.
+const ROOM: usize = 1024;
+
+/// Why no touch that meets the query begins with a node: it has more than a limit allows, or it can't come to
+/// what a limit asks for.
+#[derive(Clone, Copy, Debug, PartialEq, Eq)]
+pub enum Hopeless {
+    TooMany,
+    TooFew,
+}
+
+/// A node of a problem, with the counts that the query's limits are on. It is seen as the problem and the node.
+///
+/// All memory is taken in `new`. No call takes a time that grows with the node, and each is next to nothing
+/// where the query has no counts, no patterns and no limits on changes of method.
+#[derive(Drop)]
+pub struct Meter {
+    problem: Problem,
+    numbers: Numbers,
+    // Of each step.
+    kinds: Vec<Kind>,
+    // The node.
+    steps: Vec<u8>,
+    marks: Vec<Gauge>,
+    letters: Vec<Gauge>,
+    patterns: Vec<Fitting>,
+    length: u64,
+    changes: u64,
+}
+
+impl Model for Meter {
+    ghost use Rattle.std.specs.Prelude.{◌≤◌, vec_capacity};
+    ghost use Rattle.cr_query.specs.Gauges.{HasSmallNumbers, HasSmallCounts};
+    ghost use Rattle.cr_query.specs.Meters.{MeterParts, meter_from, IsCompiled, IsCounted};
+
+    ghost Value = { MeterParts };
+
+    ghost view = { λ m. meter_from m.problem m.steps.items };
+
+    ghost invariant = { λ m.
+        IsCompiled m.problem m.kinds.items m.numbers
+        × IsCounted m.problem m.steps.items m.marks.items m.letters.items m.patterns.items m.length m.changes
+        × HasSmallNumbers m.numbers
+        × HasSmallCounts m.marks.items m.letters.items m.patterns.items m.length m.changes
+        × (1024 ≤ vec_capacity m.steps) };
+}
+
+impl Meter {
+    /// The meter of a problem, at the node of no steps. Err where no memory is left.
+    pub fn new(alloc: Global, problem: &Problem) -> Result<Meter, NoMemory>
+        ensures { IfOk result (λ meter. meter ≡ record { problem = problem.now; node = [] }) }
+    {
+        let query = problem.query();
+        let numbers = numbers_of(problem);
+        let kinds = kinds_of(alloc, problem)?;
+        let steps = Vec::with_capacity(alloc, ROOM)?;
+        let marks = marks_of(alloc, counts_of(query))?;
+        let letters = letters_of(alloc, method_counts_of(query))?;
+        let patterns = fittings_of(alloc, problem.stage(), patterns_of(query))?;
+        let problem = problem.copy(alloc)?;
+        Ok(Meter {
+            problem,
+            numbers,
+            kinds,
+            steps,
+            marks,
+            letters,
+            patterns,
+            length: 0,
+            changes: 0,
+        })
+    }
+
+    /// Goes to the node with this step more. The row is the node's last one, from which the lead is rung. It
+    /// takes no memory.
+    pub fn add_lead(&mut self, leads: &LeadTable, step: u8, from: &Row)
+        requires table { leads.now ≡ lead_table self.old.problem }
+        requires step { step < length self.old.problem.leads }
+        requires from { from.now ≡ head_of self.old.problem self.old.node }
+        requires few { length self.old.node < 1024 }
+        ensures { self.new ≡ record { problem = self.old.problem; node = child self.old.node step } }
+    {
+        joined_callings_multiply();
+        ringing_on();
+        let kind = kind_at(&self.kinds, step);
+        self.changes += change_to(&self.kinds, &self.steps, kind.method);
+        self.length += kind.length;
+        raise(&mut self.marks, kind.mark);
+        raise(&mut self.letters, kind.letter);
+        raise_rows(&mut self.patterns, from, leads.rows_of(step));
+        put(&mut self.steps, step);
+    }
+
+    /// Goes back to the node without its last step, which is this one. The row is the last one of the node that
+    /// is left. It takes no memory.
+    pub fn take_back(&mut self, leads: &LeadTable, step: u8, from: &Row)
+        requires table { leads.now ≡ lead_table self.old.problem }
+        requires last { self.old.node ≡ child (parent self.old.node) step }
+        requires from { from.now ≡ head_of self.old.problem (parent self.old.node) }
+        ensures { self.new ≡ record { problem = self.old.problem; node = parent self.old.node } }
+    {
+        joined_callings_multiply();
+        ringing_on();
+        let kind = kind_at(&self.kinds, step);
+        cut(&mut self.steps);
+        lower_rows(&mut self.patterns, from, leads.rows_of(step));
+        lower(&mut self.letters, kind.letter);
+        lower(&mut self.marks, kind.mark);
+        self.length -= kind.length;
+        self.changes -= change_to(&self.kinds, &self.steps, kind.method);
+    }
+
+    /// Whether the node has too many leads, rows or changes of method for the query, or too few that are left.
+    pub fn hopeless(&self) -> Option<Hopeless>
+        ensures many { (result ≡ Some TooMany) ↔ (is_too_many self.now.problem self.now.node ≡ true) }
+        ensures few { (result ≡ Some TooFew)
+            ↔ ((is_too_many self.now.problem self.now.node ≡ false) × (is_too_few self.now.problem self.now.node ≡ true)) }
+    {
+        if self.has_too_many() {
+            Some(Hopeless::TooMany)
+        } else if self.has_too_few() {
+            Some(Hopeless::TooFew)
+        } else {
+            None
+        }
+    }
+
+    /// Whether the node with this step more is so by its leads alone: rows that fit patterns are not looked at.
+    pub fn is_hopeless_with(&self, step: u8) -> bool
+        requires { step < length self.now.problem.leads }
+        ensures { result ≡ is_hopeless_by_leads self.now.problem (child self.now.node step) }
+    {
+        if self.asks_nothing_of_leads() {
+            return false;
+        }
+        ringing_on();
+        let kind = kind_at(&self.kinds, step);
+        let changes = self.changes + change_to(&self.kinds, &self.steps, kind.method);
+        let left = leads_left(self.numbers, self.length + kind.length);
+        is_hopeless(self.numbers, &self.marks, &self.letters, Some(kind), changes, left)
+    }
+
+    /// Whether the node's touch, which is so many times the node as the query has parts, meets each count of
+    /// marks and of methods.
+    pub fn meets_counts(&self) -> bool
+        ensures { IsTrue result ↔ (MeetsCounts self.now.problem (touch_of self.now.problem self.now.node)
+            × MeetsMethodCounts self.now.problem (touch_of self.now.problem self.now.node)) }
+    {
+        self.meets_mark_counts() && self.meets_method_counts()
+    }
+
+    fn meets_mark_counts(&self) -> bool
+        ensures { IsTrue result ↔ MeetsCounts self.now.problem (touch_of self.now.problem self.now.node) }
+    {
+        all_within(&self.marks, self.numbers.parts)
+    }
+
+    fn meets_method_counts(&self) -> bool
+        ensures { IsTrue result ↔ MeetsMethodCounts self.now.problem (touch_of self.now.problem self.now.node) }
+    {
+        all_within(&self.letters, self.numbers.parts)
+    }
+
+    fn has_too_many(&self) -> bool
+        ensures { result ≡ is_too_many self.now.problem self.now.node }
+    {
+        self.has_too_many_leads() || some_have_more(&self.patterns)
+    }
+
+    fn has_too_few(&self) -> bool
+        ensures { result ≡ is_too_few self.now.problem self.now.node }
+    {
+        self.has_too_few_leads() || self.has_too_few_rows()
+    }
+
+    fn has_too_many_leads(&self) -> bool
+        ensures { result ≡ has_too_many_leads self.now.problem self.now.node }
+    {
+        has_too_many_leads(self.numbers, &self.marks, &self.letters, None, self.changes)
+    }
+
+    fn has_too_few_leads(&self) -> bool
+        ensures { result ≡ has_too_few_leads self.now.problem self.now.node }
+    {
+        if self.asks_nothing_of_leads() {
+            return false;
+        }
+        let left = leads_left(self.numbers, self.length);
+        has_too_few_leads(self.numbers, &self.marks, &self.letters, None, self.changes, left)
+    }
+
+    fn has_too_few_rows(&self) -> bool
+        ensures { result ≡ has_too_few_rows self.now.problem self.now.node }
+    {
+        some_have_fewer(&self.patterns, self.numbers.most.saturating_sub(self.length))
+    }
+
+    // Whether the query has no counts and no limits on changes of method.
+    fn asks_nothing_of_leads(&self) -> bool
+        ensures { result ≡ true → (node : List ℕ)
+            → (has_too_many_leads self.now.problem node ≡ false) × (has_too_few_leads self.now.problem node ≡ false) }
+    {
+        self.marks.is_empty() && self.letters.is_empty() && self.numbers.com.is_none()
+    }
+}
