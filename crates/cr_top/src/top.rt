@@ -121,5 +121,8 @@ fn text_of(alloc: Global, input: &[u8], problem: &Problem) -> Result<Vec<u8>, St
     requires no_checkpoint { IsCheckpoint input.now → ⊥ }
     ensures { MakesText input.now result }
 {
-    Err(Status::NoMemory)
+    match searched(alloc, problem) {
+        Ok(text) => Ok(text),
+        Err(NoMemory) => Err(Status::NoMemory),
+    }
 }
