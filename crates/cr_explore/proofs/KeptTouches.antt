@@ -34,11 +34,9 @@ module _ (p : ProblemParts) (node : List ℕ) where
   pub asked : IsSound p → ((calling : List ℕ) → turn_free p.query ≡ true → Wanted p calling → Kept p calling ↔ IsLeastRotation (part_of p calling))
       → Kept p (touch_of p node) → MayBeKept p node
   asked sound least kept = record {
-    some = λ none. kept.wanted.touch.some (ap (touch_of p) none ∙ no_steps 0 (parts_of p));
-    home = kept.wanted.touch.home;
+    home = (λ none. kept.wanted.touch.some (ap (touch_of p) none ∙ no_steps 0 (parts_of p)), kept.wanted.touch.home);
     long = subst (λ (n : ℕ). p.query.min ≤ℤ pos n) (words_length p 0 (parts_of p) node) kept.wanted.meets.long;
-    counts = kept.wanted.meets.counts;
-    method_counts = kept.wanted.meets.method_counts;
+    counts = (kept.wanted.meets.counts, kept.wanted.meets.method_counts);
     least = λ free. subst IsLeastRotation (part_is (parts_of p) node (some_parts p sound)) ((least (touch_of p node) free kept.wanted).0 kept);
   }
 
@@ -69,13 +67,13 @@ module _ (p : ProblemParts) (node : List ℕ) where
       let same = one_part one in
       (least (touch_of p node) free (record {
         steps = subst (HasSteps p) (sym same) steps;
-        touch = record { some = λ none. may.some (sym same ∙ none); home = may.home; differ = subst (λ (c : List ℕ). AllDiffer (rows_of p c)) (sym same) differ };
+        touch = record { some = λ none. may.home.0 (sym same ∙ none); home = may.home.1; differ = subst (λ (c : List ℕ). AllDiffer (rows_of p c)) (sym same) differ };
         meets = record {
           long = subst (λ (n : ℕ). p.query.min ≤ℤ pos n) (sym (words_length p 0 (parts_of p) node)) may.long;
           short = subst (λ (c : List ℕ). length_of p c ≤ cap p) (sym same) short;
           parts = (node, refl);
-          counts = may.counts;
-          method_counts = may.method_counts;
+          counts = may.counts.0;
+          method_counts = may.counts.1;
           patterns = subst (λ (list : List PatternParts). All (λ pattern. IsWithin pattern.min pattern.max (rows_fitting pattern.cells (rows_of p (touch_of p node)))) list) (sym patterns) (λ k d inside. absurd (omega arith));
           «com» = subst (λ (o : Option Com). MeetsCom o (changes_of_method p (touch_of p node))) (sym limits) tt;
         };

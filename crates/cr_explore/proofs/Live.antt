@@ -92,3 +92,24 @@ module _ (p : ProblemParts) (most : ℕ) (node : List ℕ) where
   pub none_past : live_from p most node (length p.leads) ≡ []
   unfolding live_from
   none_past = let number : length p.leads - length p.leads ≡ 0 = omega arith in ap (λ k. filter (is_live p most) (map (child node) (range_with_len (length p.leads) k))) number
+
+  -- one step on, past a dead child or to a live one
+  pub first_dead : (step : ℕ) → step < length p.leads → is_live p most (child node step) ≡ false → first_live p most node step ≡ first_live p most node (step + 1)
+  unfolding first_live
+  first_dead step inside dies =
+      let more : length p.leads - step ≡ suc (length p.leads - (step + 1)) = omega arith in
+      ap (λ k. find (λ other. is_live p most (child node other)) (range_with_len step k)) more
+      ∙ ap (λ b. cond b (Some step) (find (λ other. is_live p most (child node other)) (range_with_len (step + 1) (length p.leads - (step + 1))))) dies
+
+  pub first_found : (step : ℕ) → step < length p.leads → is_live p most (child node step) ≡ true → first_live p most node step ≡ Some step
+  unfolding first_live
+  first_found step inside lives =
+      let more : length p.leads - step ≡ suc (length p.leads - (step + 1)) = omega arith in
+      ap (λ k. find (λ other. is_live p most (child node other)) (range_with_len step k)) more
+      ∙ ap (λ b. cond b (Some step) (find (λ other. is_live p most (child node other)) (range_with_len (step + 1) (length p.leads - (step + 1))))) lives
+
+  pub first_ended : (step : ℕ) → length p.leads ≤ step → first_live p most node step ≡ None
+  unfolding first_live
+  first_ended step past =
+      let none : length p.leads - step ≡ 0 = omega arith in
+      ap (λ k. find (λ other. is_live p most (child node other)) (range_with_len step k)) none

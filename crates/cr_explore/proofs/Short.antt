@@ -1,10 +1,13 @@
 -- The touch of a valid node has few leads.
-use Rattle.std.proofs.Common.{◌≡◌, ℕ, zero, suc, ◌+◌, ◌*◌, ◌/◌, ◌≤◌, List, [], ◌++◌, length, flat_map, map, nat_abs, refl, sym, ap, ◌∙◌, arith, append-nil, append_assoc, length-append}
+use Rattle.std.proofs.Common.{◌≡◌, ℕ, zero, suc, ◌+◌, ◌*◌, ◌/◌, ◌<◌, ◌≤◌, List, [], ◌++◌, length, flat_map, map, take, drop, take-append-drop, nat_abs, refl, sym, ap, ◌∙◌, arith, append-nil, append_assoc, length-append}
 use Rattle.std.specs.List.{range_with_len}
 use Rattle.std.proofs.Math.Nat.{mul_comm, mul_assoc, mul-le-mul_left, mul-div-le}
 use Rattle.std.proofs.lemmas.Nat.{le-div}
 use Rattle.cr_model.specs.Problems.{ProblemParts}
-use Rattle.cr_model.specs.Callings.{length_of, shortest}
+use Rattle.std.proofs.lemmas.List.Elements.{All-take, All-append}
+use Rattle.cr_model.specs.Callings.{HasSteps, length_of, shortest}
+use Rattle.cr_model.specs.OneTurn.{touch_of}
+use Rattle.cr_model.proofs.Ringing.{lengths_on}
 use Rattle.cr_model.specs.Limits.{most_leads}
 use Rattle.cr_model.specs.Queries.{cap, part_cap, repeated}
 use Rattle.cr_model.specs.Nodes.{IsValid}
@@ -47,3 +50,18 @@ module _ (p : ProblemParts) (node : List ℕ) (sound : IsSound p) (valid : IsVal
   node_is_short =
       let some = mul-le-mul_left (length node) (some_parts p sound) in
       omega (arith, some, mul_comm (parts_of p) (length node), touch_is_short)
+
+-- the first steps of a valid node are a valid node
+pub front_is_valid : (p : ProblemParts) (node : List ℕ) (number : ℕ) → IsValid p node → IsValid p (take number node)
+front_is_valid p node number valid = record {
+  steps = All-take (λ step. step < length p.leads) number node valid.steps;
+  short = omega (arith, valid.short, ap (length_of p) (take-append-drop number node), lengths_on p (take number node) (drop number node));
+}
+
+-- so many words have the steps of one
+words_have_steps : (p : ProblemParts) (a number : ℕ) (word : List ℕ) → HasSteps p word → HasSteps p (words a number word)
+words_have_steps p a zero word steps = λ k d inside. absurd (omega arith)
+words_have_steps p a (suc number) word steps = All-append (λ step. step < length p.leads) word (words (a + 1) number word) steps (words_have_steps p (a + 1) number word steps)
+
+pub touch_has_steps : (p : ProblemParts) (node : List ℕ) → HasSteps p node → HasSteps p (touch_of p node)
+touch_has_steps p node steps = words_have_steps p 0 (parts_of p) node steps

@@ -11,8 +11,8 @@ use Rattle.cr_prune.specs.Pruners.{PrunerParts}
 
 -- they are those of the problem
 pub record AreTables (p : ProblemParts) (leads : TableParts) (reach : ReachParts) : Type 0 where
-  pub leads : leads ≡ lead_table p
-  pub reach : reach ≡ reach_table p most_rows
+  pub are_leads : leads ≡ lead_table p
+  pub are_levels : reach ≡ reach_table p most_rows
 
 -- the path's walk and pruner are of the problem, and so are its tables
 pub record IsWalkPath (p : ProblemParts) (leads : TableParts) (walk : WalkParts) (pruner : PrunerParts) : Type 0 where

@@ -9,6 +9,7 @@ ghost use Rattle.cr_model.specs.OneTurn.{touch_of};
 ghost use Rattle.cr_model.specs.Queries.{cap};
 ghost use Rattle.cr_model.specs.Touches.{Kept};
 ghost use Rattle.cr_model.specs.Turning.{IsLeastRotation};
+ghost use Rattle.cr_query.specs.Meeting.{MeetsCounts, MeetsMethodCounts};
 ghost use Rattle.cr_explore.specs.Keeping.{MayBeKept};
 
 use crate::homes::{comes_home, is_long_enough};
@@ -37,10 +38,11 @@ pub fn is_touch_kept(
     ensures { IfOk result (λ kept. IsTrue kept ↔ Kept problem.now (touch_of problem.now walk.now.node)) }
 {
     a_wanted_calling_is_kept_where_its_part_is_least();
+    let parts = parts_of(problem);
     if !may_be_kept(problem, walk) {
         return Ok(false);
     }
-    if parts_of(problem) == 1 && turn_free(problem.query()) {
+    if parts == 1 && turn_free(problem.query()) {
         return Ok(is_true_and_short(problem, walk));
     }
     let touch = touch_of(alloc, problem, walk.steps())?;
@@ -54,8 +56,17 @@ fn may_be_kept(problem: &Problem, walk: &Walk) -> bool
 {
     comes_home(problem, walk.steps(), walk.head())
         && is_long_enough(problem, walk.length())
-        && walk.meets_counts()
+        && meets_counts(problem, walk)
         && is_least_if_asked(problem, walk)
+}
+
+// Whether the counts of marks and those of methods are met.
+fn meets_counts(problem: &Problem, walk: &Walk) -> bool
+    requires { walk.now.problem ≡ problem.now }
+    ensures { IsTrue result ↔ (MeetsCounts problem.now (touch_of problem.now walk.now.node)
+        × MeetsMethodCounts problem.now (touch_of problem.now walk.now.node)) }
+{
+    walk.meets_counts()
 }
 
 // Whether no rotation of the node is less than it, if all rotations of a touch meet the query or none.

@@ -1,11 +1,14 @@
 //! The search over rows.
 
-ghost use Rattle.std.specs.Prelude.{◌≡◌, IfOk, map};
+ghost use Rattle.std.specs.Prelude.{◌≡◌, All, IfOk};
+ghost use Rattle.cr_model.specs.Nodes.{IsValid};
 ghost use Rattle.cr_model.specs.Sizes.{most_rows};
+ghost use Rattle.cr_node.specs.Work.{IsDone};
+ghost use Rattle.cr_explore.specs.Searches.{AreTables};
 ghost use Rattle.cr_explore.specs.Turns.{after_turns};
 
 use crate::laws::turns_are_finished_work;
-use crate::search::take_turns;
+use crate::search::{Explored, take_turns};
 use crate::walk_path::WalkPath;
 use cr_leads::LeadTable;
 use cr_model::Problem;
@@ -68,12 +71,50 @@ impl Explorer for RowSearch {
 
     fn explore(&self, alloc: Global, job: &[Node], turns: u64) -> Result<Done, NoMemory> {
         turns_are_finished_work();
-        let mut path = WalkPath::new(alloc, &self.problem, &self.leads, &self.reach)?;
-        let explored = take_turns(alloc, &mut path, job, turns)?;
-        let problem = self.problem.copy(alloc)?;
-        let nodes = copied(alloc, job)?;
-        Ok(Done::new(problem, nodes, explored.found, explored.rest, explored.used))
+        let problem = &self.problem;
+        let _ = problem.stage();
+        let explored = take_turns_on(alloc, problem, &self.leads, &self.reach, job, turns)?;
+        finished(alloc, problem, job, explored)
     }
+}
+
+// Turns on a job, with the tables of its problem.
+fn take_turns_on(
+    alloc: Global,
+    problem: &Problem,
+    leads: &LeadTable,
+    reach: &ReachTable,
+    job: &[Node],
+    turns: u64,
+) -> Result<Explored, NoMemory>
+    requires tables { AreTables problem.now leads.now reach.now }
+    requires job { All (IsValid problem.now) job.now }
+    ensures { IfOk result (λ done. record { found = done.found.items; rest = done.rest.items; used = done.used }
+        ≡ after_turns problem.now most_rows job.now turns) }
+{
+    let mut path = WalkPath::new(alloc, problem, leads, reach)?;
+    take_turns(alloc, &mut path, job, turns)
+}
+
+// The finished work of these turns on a job.
+fn finished(
+    alloc: Global,
+    problem: &Problem,
+    job: &[Node],
+    explored: Explored,
+) -> Result<Done, NoMemory>
+    requires { IsDone problem.now job.now explored.found.items explored.rest.items explored.used }
+    ensures { IfOk result (λ done. done ≡ record {
+      problem = problem.now;
+      job = job.now;
+      found = explored.found.items;
+      rest = explored.rest.items;
+      used = explored.used;
+    }) }
+{
+    let problem = problem.copy(alloc)?;
+    let job = copied(alloc, job)?;
+    Ok(Done::new(problem, job, explored.found, explored.rest, explored.used))
 }
 
 // The same nodes again.

@@ -1,15 +1,16 @@
 //! Why a node is dead.
 
-ghost use Rattle.std.specs.Prelude.{◌≡◌, ◌+◌, ◌*◌, ◌<◌, ◌≤◌, ℕ, not, nat_lt, [], ◌∷◌, length, find, IfSome};
+ghost use Rattle.std.specs.Prelude.{◌≡◌, ◌+◌, ◌*◌, ◌<◌, ◌≤◌, ◌||◌, ℕ, not, nat_lt, [], ◌∷◌, length, find, IfSome};
 ghost use Rattle.cr_model.specs.declared.reason.Reason.TheVariants.{Long, SelfFalse, Again, Home, Far, TooMany, TooFew, TurnsBack};
 ghost use Rattle.cr_model.specs.Callings.{shortest, length_of, rows_of};
 ghost use Rattle.cr_model.specs.Levels.{at_least};
 ghost use Rattle.cr_model.specs.Queries.{cap, part_cap};
 ghost use Rattle.cr_model.specs.Decided.{rows_differ};
-ghost use Rattle.cr_model.specs.Dead.{HasNoneBelow, is_self_false, is_turned_back, holds, dead};
+ghost use Rattle.cr_model.specs.Dead.{HasNoneBelow, is_self_false, is_far, is_turned_back, holds, dead};
 ghost use Rattle.cr_model.specs.Sizes.{child};
 ghost use Rattle.cr_leads.specs.Tables.{lead_table};
 ghost use Rattle.cr_reach.specs.Tables.{reach_table};
+ghost use Rattle.cr_query.specs.Meters.{is_hopeless_by_leads};
 ghost use Rattle.cr_prune.specs.Pruners.{dies_unrung};
 
 use crate::facts::Facts;
@@ -85,16 +86,14 @@ impl<'a> Pruner<'a> {
     pub fn dies_unrung(&self, walk: &Walk, step: u8) -> bool
         requires same { walk.now.problem ≡ self.now.problem }
         requires step { step < length self.now.problem.leads }
-        requires short { length_of self.now.problem walk.now.node ≤ part_cap self.now.problem }
         ensures { (most : ℕ) → self.now.reach ≡ reach_table self.now.problem most
             → result ≡ dies_unrung self.now.problem most (child walk.now.node step) }
     {
-        let length = walk.length() + changes_of(self.problem, step).len() as u64;
-        self.is_long(length)
+        let rung = self.length_with(walk, step);
+        self.is_long(rung)
             || self.is_false(step)
-            || self.is_far(length, &head_after(self.leads, walk.head(), step))
-            || walk.is_hopeless_with(step)
-            || self.is_turned_back_with(walk, step)
+            || self.is_far_with(walk, step, rung)
+            || self.is_cut_by_leads(walk, step)
     }
 
     // The first reason that the rows tell.
@@ -134,10 +133,10 @@ impl<'a> Pruner<'a> {
     }
 
     // Whether so many rows are more than a part may have.
-    fn is_long(&self, length: u64) -> bool
-        ensures { result ≡ nat_lt (part_cap self.now.problem) length }
+    fn is_long(&self, rung: u64) -> bool
+        ensures { result ≡ nat_lt (part_cap self.now.problem) rung }
     {
-        length > self.facts.part_cap
+        rung > self.facts.part_cap
     }
 
     // Whether the lead of a step has a row twice.
@@ -160,13 +159,45 @@ impl<'a> Pruner<'a> {
     }
 
     // Whether home is too far from this head, after so many rows.
-    fn is_far(&self, length: u64, head: &Row) -> bool
-        requires { length ≤ 13000 }
+    fn is_far(&self, rung: u64, head: &Row) -> bool
+        requires { rung ≤ 13000 }
         ensures { (most : ℕ) → self.now.reach ≡ reach_table self.now.problem most
-            → result ≡ nat_lt (cap self.now.problem) (length + shortest self.now.problem * at_least self.now.problem most head.now) }
+            → result ≡ nat_lt (cap self.now.problem) (rung + shortest self.now.problem * at_least self.now.problem most head.now) }
     {
         let least = u64::from(self.reach.at_least(head));
-        length + self.facts.shortest * least > self.facts.cap
+        rung + self.facts.shortest * least > self.facts.cap
+    }
+
+    // The number of rows of the child by a step.
+    fn length_with(&self, walk: &Walk, step: u8) -> u64
+        requires same { walk.now.problem ≡ self.now.problem }
+        requires step { step < length self.now.problem.leads }
+        ensures is { result ≡ length_of self.now.problem (child walk.now.node step) }
+        ensures few { result ≤ 13000 }
+    {
+        walk.length() + changes_of(self.problem, step).len() as u64
+    }
+
+    // Whether home is too far from the child by a step, which has so many rows.
+    fn is_far_with(&self, walk: &Walk, step: u8, rung: u64) -> bool
+        requires same { walk.now.problem ≡ self.now.problem }
+        requires step { step < length self.now.problem.leads }
+        requires is { rung ≡ length_of self.now.problem (child walk.now.node step) }
+        requires few { rung ≤ 13000 }
+        ensures { (most : ℕ) → self.now.reach ≡ reach_table self.now.problem most
+            → result ≡ is_far self.now.problem most (child walk.now.node step) }
+    {
+        self.is_far(rung, &head_after(self.leads, walk.head(), step))
+    }
+
+    // Whether the child by a step has too many or too few leads, or turns back.
+    fn is_cut_by_leads(&self, walk: &Walk, step: u8) -> bool
+        requires same { walk.now.problem ≡ self.now.problem }
+        requires step { step < length self.now.problem.leads }
+        ensures { result ≡ (is_hopeless_by_leads self.now.problem (child walk.now.node step)
+            || is_turned_back self.now.problem (child walk.now.node step)) }
+    {
+        walk.is_hopeless_with(step) || self.is_turned_back_with(walk, step)
     }
 
     // TurnsBack, if the query is the same for all rotations and the node turns back.
