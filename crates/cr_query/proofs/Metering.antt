@@ -69,18 +69,18 @@ module _ (p : ProblemParts) (node : List ℕ) (numbers : Numbers) (marks letters
   many_told =
       ap₂ (λ a b. a || (b || above_com numbers.com (numbers.parts * changes))) (of_marks (is_above numbers.parts)) (of_letters (is_above numbers.parts))
       ∙ ap₂ (λ parts n. list_any (λ count. is_above parts (marked p node count)) p.query.counts
-          || (list_any (λ count. is_above parts (lettered p node count)) p.query.method_counts || above_com numbers.com (parts * n))) found.parts changed
+      || (list_any (λ count. is_above parts (lettered p node count)) p.query.method_counts || above_com numbers.com (parts * n))) found.parts changed
       ∙ ap (λ limits. list_any (λ count. is_above (parts_of p) (marked p node count)) p.query.counts
-          || (list_any (λ count. is_above (parts_of p) (lettered p node count)) p.query.method_counts || above_com limits (parts_of p * changes_of_method p node))) found.com
+      || (list_any (λ count. is_above (parts_of p) (lettered p node count)) p.query.method_counts || above_com limits (parts_of p * changes_of_method p node))) found.com
 
   pub few_told : (left : ℕ) → left ≡ leads_left p node → too_few_leads numbers marks letters added changes left ≡ has_too_few_leads p node
   few_told left is =
       ap₂ (λ a b. a || (b || below_com numbers.com (numbers.parts * (changes + left) + numbers.parts - 1))) (of_marks (is_below numbers.parts left)) (of_letters (is_below numbers.parts left))
       ∙ ap₂ (λ parts n. list_any (λ count. is_below parts left (marked p node count)) p.query.counts
-          || (list_any (λ count. is_below parts left (lettered p node count)) p.query.method_counts || below_com numbers.com (parts * (n + left) + parts - 1))) found.parts changed
+      || (list_any (λ count. is_below parts left (lettered p node count)) p.query.method_counts || below_com numbers.com (parts * (n + left) + parts - 1))) found.parts changed
       ∙ ap₂ (λ more limits. list_any (λ count. is_below (parts_of p) more (marked p node count)) p.query.counts
-          || (list_any (λ count. is_below (parts_of p) more (lettered p node count)) p.query.method_counts
-          || below_com limits (parts_of p * (changes_of_method p node + more) + parts_of p - 1))) is found.com
+      || (list_any (λ count. is_below (parts_of p) more (lettered p node count)) p.query.method_counts
+      || below_com limits (parts_of p * (changes_of_method p node + more) + parts_of p - 1))) is found.com
 
 -- the leads that are left
 pub room_is : (p : ProblemParts) (node : List ℕ) (numbers : Numbers) (long : ℕ) → HasNumbers p numbers → long ≡ length_of p node
@@ -100,8 +100,8 @@ pub many_in_order : (p : ProblemParts) (node : List ℕ) (rows : Bool)
 many_in_order p node rows is =
     in_order _ _ _ rows
     ∙ ap (λ r. list_any (λ count. is_above (parts_of p) (marked p node count)) p.query.counts
-        || (list_any (λ count. is_above (parts_of p) (lettered p node count)) p.query.method_counts
-        || (r || above_com p.query.com (parts_of p * changes_of_method p node)))) (is ∙ any_mapped has_more_rows (fitted p node) p.query.patterns)
+    || (list_any (λ count. is_above (parts_of p) (lettered p node count)) p.query.method_counts
+    || (r || above_com p.query.com (parts_of p * changes_of_method p node)))) (is ∙ any_mapped has_more_rows (fitted p node) p.query.patterns)
 
 -- numbers of a node
 few_changed : (p : ProblemParts) (node : List ℕ) → changes_of_method p node ≤ length node
@@ -191,7 +191,7 @@ module _ (p : ProblemParts) (node : List ℕ) (kinds : List Kind) (marks letters
       ap₂ (λ a b. a || b)
       (many_told p (child node step) numbers marks letters (Some kind) (changes + change) found by_mark by_letter (change_raised change is))
       (few_told p (child node step) numbers marks letters (Some kind) (changes + change) found by_mark by_letter (change_raised change is) left
-          (left_is ∙ room_is p (child node step) numbers (long + kind.length) found (length_raised lengths)))
+      (left_is ∙ room_is p (child node step) numbers (long + kind.length) found (length_raised lengths)))
 
 -- a head is as long as the stage
 abbrev pub HeadsMultiply : Type 0
@@ -304,8 +304,8 @@ marks_met p node marks parts is by_mark = (
   λ met. subst (All (λ (gauge : Gauge). IsWithin gauge.min gauge.max (parts * gauge.number))) (sym by_mark)
       (All-map (λ (gauge : Gauge). IsWithin gauge.min gauge.max (parts * gauge.number)) (marked p node) p.query.counts
       (λ k d inside.
-          let count = get_or p.query.counts k d in
-          subst (IsWithin count.min count.max) (sym (ap (λ n. n * leads_marked p count.mark node) is ∙ sym (repeated_count (λ s. cond (nat_eq (mark_of p s) count.mark) 1 0) node 0 (parts_of p)))) (met k d inside))),
+      let count = get_or p.query.counts k d in
+      subst (IsWithin count.min count.max) (sym (ap (λ n. n * leads_marked p count.mark node) is ∙ sym (repeated_count (λ s. cond (nat_eq (mark_of p s) count.mark) 1 0) node 0 (parts_of p)))) (met k d inside))),
 )
 
 pub letters_met : (p : ProblemParts) (node : List ℕ) (letters : List Gauge) (parts : ℕ) → parts ≡ parts_of p → letters ≡ map (lettered p node) p.query.method_counts
@@ -320,8 +320,8 @@ letters_met p node letters parts is by_letter = (
   λ met. subst (All (λ (gauge : Gauge). IsWithin gauge.min gauge.max (parts * gauge.number))) (sym by_letter)
       (All-map (λ (gauge : Gauge). IsWithin gauge.min gauge.max (parts * gauge.number)) (lettered p node) p.query.method_counts
       (λ k d inside.
-          let count = get_or p.query.method_counts k d in
-          subst (IsWithin count.min count.max) (sym (ap (λ n. n * leads_lettered p count.letter node) is ∙ sym (repeated_count (λ s. cond (nat_eq (letter_of p s) count.letter) 1 0) node 0 (parts_of p)))) (met k d inside))),
+      let count = get_or p.query.method_counts k d in
+      subst (IsWithin count.min count.max) (sym (ap (λ n. n * leads_lettered p count.letter node) is ∙ sym (repeated_count (λ s. cond (nat_eq (letter_of p s) count.letter) 1 0) node 0 (parts_of p)))) (met k d inside))),
 )
 
 -- what a list holds that was lent whole and written back

@@ -11,5 +11,5 @@ returns c =
     c.has_too_many_leads.ensures
     ∙ ap₂ (λ marks letters. too_many_leads m.numbers marks letters None m.changes) c.deref.ensures.value c.deref-2.ensures.value
     ∙ many_told m.problem m.steps.items m.numbers m.marks.items m.letters.items None m.changes c.self.invariant.0.found
-        (none_added m.marks.items ∙ counted.by_mark) (none_added m.letters.items ∙ counted.by_letter) counted.changed
+    (none_added m.marks.items ∙ counted.by_mark) (none_added m.letters.items ∙ counted.by_letter) counted.changed
     ∙ ap (λ (meter : MeterParts). has_too_many_leads meter.problem meter.node) c.self.view_is
