@@ -1,24 +1,22 @@
 -- What a meter keeps, and what it tells of its node.
-use Rattle.std.proofs.Common.{◌≡◌, ℕ, zero, suc, ◌+◌, ◌-◌, ◌*◌, ◌/◌, ◌<◌, ◌≤◌, ◌↔◌, Bool, true, false, cond, ◌||◌, List, [], ◌∷◌, ◌++◌, length, get_or, map, take, drop, flat_map, sum_by, All, count_by, nat_eq, Option, Some, None, refl, sym, ap, ap₂, ◌∙◌, subst, arith, length-append, append-nil}
+use Rattle.std.proofs.Common.{◌≡◌, ℕ, zero, suc, ◌+◌, ◌-◌, ◌*◌, ◌/◌, ◌<◌, ◌≤◌, ◌↔◌, Bool, true, false, cond, ◌||◌, List, [], ◌∷◌, ◌++◌, length, get_or, map, take, drop, flat_map, sum_by, All, nat_eq, Option, Some, None, refl, sym, ap, ap₂, ◌∙◌, subst, arith, length-append, append-nil}
 use Rattle.std.specs.List.{list_any, range_with_len}
-use Rattle.std.proofs.Math.Bool.{or_comm, or_assoc}
+use Rattle.std.proofs.Math.Bool.{or_comm}
 use Rattle.std.proofs.lemmas.List.{length-map, get_or-map, get_or_append_left, take_all, drop_all}
 use Rattle.std.proofs.Math.Seq.{get_or-append_seam}
 use Rattle.std.proofs.Math.Nat.{suc-mul}
-use Rattle.std.proofs.lemmas.List.Elements.{All-head, All-tail, All-append, All-nil, All-cons, All-map, All-from_get_or, All-weaker}
+use Rattle.std.proofs.lemmas.List.Elements.{All-append, All-nil, All-cons, All-map, All-from_get_or, All-weaker}
 use Rattle.std.proofs.lemmas.List.FromFn.{length-range_with_len, length-map-range_with_len}
 use Rattle.std.proofs.lemmas.List.Folds.{map_fixed}
 use Rattle.std.proofs.lemmas.List.Sums.{sum_by-le, sum_by-append, count_by-le-length}
 use Rattle.cr_row.specs.Rows.{IsRow, rounds, product}
 use Rattle.cr_leads.specs.Tables.{TableParts, lead_table, IsLead}
-use Rattle.cr_model.specs.declared.query.Count.{Count}
-use Rattle.cr_model.specs.declared.query.MethodCount.{MethodCount}
 use Rattle.cr_model.specs.Problems.{PatternParts, ProblemParts}
-use Rattle.cr_model.specs.Callings.{mark_of, method_of, letter_of, lead_length, changes_of, changes_of_all, shortest, rows_of, length_of, head_of, HasSteps}
-use Rattle.cr_model.specs.Dead.{parts_of, left_of, leads_left, above_com, below_com, is_too_many, is_too_few}
+use Rattle.cr_model.specs.Callings.{mark_of, method_of, letter_of, lead_length, changes_of, changes_of_all, rows_of, length_of, head_of, HasSteps}
+use Rattle.cr_model.specs.Dead.{parts_of, leads_left, above_com, below_com, is_too_many}
 use Rattle.cr_model.specs.OneTurn.{touch_of}
-use Rattle.cr_model.specs.Queries.{IsWithin, fits, part_cap, leads_marked, leads_lettered, rows_fitting, changes_of_method}
-use Rattle.cr_model.specs.Right.{FitsStage, pattern_at}
+use Rattle.cr_model.specs.Queries.{IsWithin, fits, part_cap, leads_marked, leads_lettered, changes_of_method}
+use Rattle.cr_model.specs.Right.{FitsStage}
 use Rattle.cr_model.specs.Sizes.{child}
 use Rattle.cr_model.specs.Sound.{IsSound, sound_leads, sound_patterns}
 use Rattle.cr_model.proofs.Measured.{lead_few, length_by_leads}
@@ -27,10 +25,10 @@ use Rattle.cr_query.specs.declared.gauges.Gauge.{Gauge}
 use Rattle.cr_query.specs.declared.fittings.Fitting.{Fitting}
 use Rattle.cr_query.specs.declared.kinds.Kind.{Kind}
 use Rattle.cr_query.specs.declared.numbers.Numbers.{Numbers}
-use Rattle.cr_query.specs.Gauges.{raised, lowered, rows_more, rows_fewer, perhaps_raised, is_above, is_below, mark_in, letter_in, too_many_leads, too_few_leads, room_left, HasSmallCounts, has_more_rows, has_fewer_rows}
+use Rattle.cr_query.specs.Gauges.{raised, lowered, rows_more, rows_fewer, perhaps_raised, is_above, is_below, mark_in, letter_in, too_many_leads, too_few_leads, room_left, HasSmallCounts, has_more_rows}
 use Rattle.cr_query.specs.Kinds.{kind_of}
 use Rattle.cr_query.specs.Meeting.{MeetsCounts, MeetsMethodCounts}
-use Rattle.cr_query.specs.Meters.{mark_gauge, letter_gauge, fitting_of, marked, lettered, fitted, kinds_of, change_between, HasNumbers, IsCounted, has_too_many_leads, has_too_few_leads, has_too_few_rows, is_hopeless_by_leads}
+use Rattle.cr_query.specs.Meters.{mark_gauge, letter_gauge, fitting_of, marked, lettered, fitted, kinds_of, change_between, HasNumbers, IsCounted, has_too_many_leads, has_too_few_leads, is_hopeless_by_leads}
 use Rattle.cr_query.proofs.Raising.{marks_raised, letters_raised, marks_lowered, letters_lowered, patterns_raised, patterns_lowered, changes_pushed}
 
 -- a test of mapped items

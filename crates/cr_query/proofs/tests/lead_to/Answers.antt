@@ -1,4 +1,4 @@
-use Rattle.std.proofs.Common.{◌<◌, length, take, sym, subst}
+use Rattle.std.proofs.Common.{◌<◌, length, sym, subst}
 use Rattle.std.proofs.lemmas.List.Elements.{All-take}
 use Rattle.cr_leads.specs.Tables.{leads_known}
 use Rattle.cr_model.specs.Callings.{HasSteps}

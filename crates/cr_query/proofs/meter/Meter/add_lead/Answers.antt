@@ -1,11 +1,11 @@
-use Rattle.std.proofs.Common.{◌≡◌, ◌<◌, ◌≤◌, ◌+◌, ◌-◌, [], ◌∷◌, ◌++◌, length, map, take, drop, All, sym, ap, ap₂, ◌∙◌, subst, arith}
+use Rattle.std.proofs.Common.{◌≡◌, ◌<◌, length, map, All, sym, ap, ap₂, ◌∙◌, subst, arith}
 use Rattle.std.proofs.lemmas.List.{length-map}
 use Rattle.cr_leads.specs.Tables.{lead_table, leads_counted}
-use Rattle.cr_model.specs.Callings.{rows_of, head_of}
+use Rattle.cr_model.specs.Callings.{head_of}
 use Rattle.cr_model.specs.Sizes.{child}
-use Rattle.cr_query.specs.Gauges.{raised, lowered, rows_more, rows_fewer}
-use Rattle.cr_query.specs.Meters.{MeterParts, parent, change_between, IsCounted}
-use Rattle.cr_query.proofs.Metering.{kinds_counted, known_kinds, known_last, known_front, head_long, shapes_staged, lead_staged, one_more, one_fewer, enough, written, recounted, small_counts}
+use Rattle.cr_query.specs.Gauges.{raised, rows_more}
+use Rattle.cr_query.specs.Meters.{MeterParts, change_between}
+use Rattle.cr_query.proofs.Metering.{kinds_counted, known_kinds, head_long, shapes_staged, lead_staged, one_more, written, recounted, small_counts}
 use Rattle.cr_query.proofs.meter.Meter.add_lead.Goals as goal
 
 pub kind_at-kind-requires : goal.kind_at-kind-requires

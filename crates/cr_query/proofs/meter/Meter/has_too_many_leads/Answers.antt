@@ -1,4 +1,4 @@
-use Rattle.std.proofs.Common.{sym, ap, ap₂, ◌∙◌, None}
+use Rattle.std.proofs.Common.{ap, ap₂, ◌∙◌, None}
 use Rattle.cr_query.specs.Gauges.{too_many_leads}
 use Rattle.cr_query.specs.Meters.{MeterParts, has_too_many_leads}
 use Rattle.cr_query.proofs.Metering.{none_added, many_told}

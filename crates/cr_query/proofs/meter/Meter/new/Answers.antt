@@ -1,8 +1,8 @@
-use Rattle.std.proofs.Common.{◌≡◌, ◌≤◌, [], ap, ap₂, map, ◌∙◌, sym, subst, arith}
+use Rattle.std.proofs.Common.{◌≡◌, ap, ap₂, map, ◌∙◌, sym, subst, arith}
 use Rattle.cr_model.specs.Problems.{ProblemParts, QueryParts}
 use Rattle.cr_model.specs.Sound.{IsSound}
 use Rattle.cr_query.specs.Meters.{mark_gauge, letter_gauge, fitting_of, kinds_of, HasNumbers, IsCounted}
-use Rattle.cr_query.proofs.Metering.{none_counted, recounted, small_counts}
+use Rattle.cr_query.proofs.Metering.{none_counted, small_counts}
 use Rattle.cr_query.proofs.meter.Meter.new.Goals as goal
 
 pub invariant_of-result : goal.invariant_of-result
