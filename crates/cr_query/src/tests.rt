@@ -391,19 +391,18 @@ fn queries_that_turning_does_not_change(rt: HostRuntime) -> Result<(), Fail> {
     Ok(())
 }
 
-// What a meter tells: of a node, of its child by the leads alone, of the child, whether the child's touch meets
-// the counts, and of the node again.
+// What a meter tells: of a node, of its child by the leads alone, of the child, and whether the child's touch
+// meets the counts.
 #[derive(Clone, Copy, PartialEq, Eq)]
-struct Told {
-    before: Option<Hopeless>,
-    by_leads: bool,
-    child: Option<Hopeless>,
-    counts: bool,
-    after: Option<Hopeless>,
-}
+struct Told(Option<Hopeless>, bool, Option<Hopeless>, bool);
 
-// Adds leads to a meter, and what it tells before, at and after the last of them.
-fn walked(alloc: Global, draft: &Draft, node: &[u8], step: u8) -> Result<Told, Fail> {
+// Adds leads to a meter and takes the last one back: what it tells, and what of the node that is left.
+fn walked(
+    alloc: Global,
+    draft: &Draft,
+    node: &[u8],
+    step: u8,
+) -> Result<(Told, Option<Hopeless>), Fail> {
     let problem = problem(alloc, draft)?;
     let leads = table(alloc, &problem)?;
     let calling = calling(alloc, node)?;
@@ -424,13 +423,7 @@ fn walked(alloc: Global, draft: &Draft, node: &[u8], step: u8) -> Result<Told, F
     let child = meter.hopeless();
     let counts = meter.meets_counts();
     meter.take_back(&leads, step, &head);
-    Ok(Told {
-        before,
-        by_leads,
-        child,
-        counts,
-        after: meter.hopeless(),
-    })
+    Ok((Told(before, by_leads, child, counts), meter.hopeless()))
 }
 
 // Leads a fresh meter to a node.
@@ -458,189 +451,106 @@ const METERED: [Metered; 14] = [
         ONE_BOB_IN_TWO_PARTS,
         &[],
         1,
-        Told {
-            before: None,
-            by_leads: true,
-            child: Some(Hopeless::TooMany),
-            counts: false,
-            after: None,
-        },
+        Told(None, true, Some(Hopeless::TooMany), false),
     ),
     Metered(
         "two bobs in two parts",
         TWO_BOBS_IN_TWO_PARTS,
         &[],
         1,
-        Told {
-            before: None,
-            by_leads: false,
-            child: None,
-            counts: true,
-            after: None,
-        },
+        Told(None, false, None, true),
     ),
     Metered(
         "no bob in two parts",
         TWO_BOBS_IN_TWO_PARTS,
         &[],
         0,
-        Told {
-            before: None,
-            by_leads: true,
-            child: Some(Hopeless::TooFew),
-            counts: false,
-            after: None,
-        },
+        Told(None, true, Some(Hopeless::TooFew), false),
     ),
     Metered(
         "five leads that are left are rounded down",
         FIVE_BOBS_OF_59_CHANGES,
         &[],
         0,
-        Told {
-            before: None,
-            by_leads: true,
-            child: Some(Hopeless::TooFew),
-            counts: false,
-            after: None,
-        },
+        Told(None, true, Some(Hopeless::TooFew), false),
     ),
     Metered(
         "and four with the bob",
         FIVE_BOBS_OF_59_CHANGES,
         &[],
         1,
-        Told {
-            before: None,
-            by_leads: false,
-            child: None,
-            counts: false,
-            after: None,
-        },
+        Told(None, false, None, false),
     ),
     Metered(
         "more rows than a pattern allows",
         FEW_ROWS,
         &[0],
         0,
-        Told {
-            before: None,
-            by_leads: false,
-            child: Some(Hopeless::TooMany),
-            counts: true,
-            after: None,
-        },
+        Told(None, false, Some(Hopeless::TooMany), true),
     ),
     Metered(
         "a row of the second lead",
         NO_QUEENS,
         &[0],
         0,
-        Told {
-            before: None,
-            by_leads: false,
-            child: Some(Hopeless::TooMany),
-            counts: true,
-            after: None,
-        },
+        Told(None, false, Some(Hopeless::TooMany), true),
     ),
     Metered(
         "one row too few is left",
         MANY_ROUNDS,
         &[],
         0,
-        Told {
-            before: None,
-            by_leads: false,
-            child: Some(Hopeless::TooFew),
-            counts: true,
-            after: None,
-        },
+        Told(None, false, Some(Hopeless::TooFew), true),
     ),
     Metered(
         "as many rows are left",
         MANY_ROUNDS_BUT_ONE,
         &[],
         0,
-        Told {
-            before: None,
-            by_leads: false,
-            child: None,
-            counts: true,
-            after: None,
-        },
+        Told(None, false, None, true),
     ),
     Metered(
         "two leads left are no three changes",
         CHANGING_THRICE,
         &[],
         0,
-        Told {
-            before: None,
-            by_leads: true,
-            child: Some(Hopeless::TooFew),
-            counts: true,
-            after: None,
-        },
+        Told(None, true, Some(Hopeless::TooFew), true),
     ),
     Metered(
         "two leads left are two changes",
         CHANGING_TWICE,
         &[],
         0,
-        Told {
-            before: None,
-            by_leads: false,
-            child: None,
-            counts: true,
-            after: None,
-        },
+        Told(None, false, None, true),
     ),
     Metered(
         "the join is no change",
         CHANGING_ONCE,
         &[0, 0],
         1,
-        Told {
-            before: None,
-            by_leads: false,
-            child: None,
-            counts: true,
-            after: None,
-        },
+        Told(None, false, None, true),
     ),
     Metered(
         "another change",
         CHANGING_ONCE,
         &[0, 1],
         0,
-        Told {
-            before: None,
-            by_leads: true,
-            child: Some(Hopeless::TooMany),
-            counts: true,
-            after: None,
-        },
+        Told(None, true, Some(Hopeless::TooMany), true),
     ),
     Metered(
         "too many before too few",
         NEVER_CHANGING_ALL_C,
         &[0],
         1,
-        Told {
-            before: Some(Hopeless::TooFew),
-            by_leads: true,
-            child: Some(Hopeless::TooMany),
-            counts: false,
-            after: Some(Hopeless::TooFew),
-        },
+        Told(Some(Hopeless::TooFew), true, Some(Hopeless::TooMany), false),
     ),
 ];
 
 #[test]
 fn meters(rt: HostRuntime) -> Result<(), Fail> {
     for Metered(name, draft, node, step, told) in METERED {
-        if walked(rt.alloc(), &draft, node, step)? != told {
+        let (seen, left) = walked(rt.alloc(), &draft, node, step)?;
+        if seen != told || left != told.0 {
             return Err(Fail::from(name));
         }
     }

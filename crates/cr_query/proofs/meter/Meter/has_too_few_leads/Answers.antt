@@ -1,7 +1,7 @@
 use Rattle.std.proofs.Common.{ap, ap₂, ◌∙◌, None}
 use Rattle.cr_query.specs.Gauges.{too_few_leads}
 use Rattle.cr_query.specs.Meters.{MeterParts, has_too_few_leads}
-use Rattle.cr_query.proofs.Metering.{none_added, few_told, room_is}
+use Rattle.cr_query.proofs.Tellings.{none_added, few_told, room_is}
 use Rattle.cr_query.proofs.meter.Meter.has_too_few_leads.Goals as goal
 
 pub returns : goal.returns

@@ -1,7 +1,7 @@
 use Rattle.std.proofs.Common.{ap, ap₂, ◌∙◌, None}
 use Rattle.cr_query.specs.Gauges.{too_many_leads}
 use Rattle.cr_query.specs.Meters.{MeterParts, has_too_many_leads}
-use Rattle.cr_query.proofs.Metering.{none_added, many_told}
+use Rattle.cr_query.proofs.Tellings.{none_added, many_told}
 use Rattle.cr_query.proofs.meter.Meter.has_too_many_leads.Goals as goal
 
 pub returns : goal.returns
