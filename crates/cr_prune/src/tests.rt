@@ -243,7 +243,7 @@ const NODES: [(&str, Draft, &[u8], Option<Reason>); 15] = [
     ("bb", DOUBLES, &[1, 1], None),
     ("pppp", DOUBLES, &[0, 0, 0, 0], None),
     ("13 times p", DOUBLES, &[0; 13], Some(Reason::Long)),
-    ("12 times p", DOUBLES, &[0; 12], Some(Reason::Again)),
+    ("11 times p", DOUBLES, &[0; 11], Some(Reason::Again)),
     ("s", MINIMUS, &[1], Some(Reason::SelfFalse)),
     ("bbb", DOUBLES, &[1, 1, 1], Some(Reason::Again)),
     ("bb in parts", IN_TWO_PARTS, &[1, 1], Some(Reason::Home)),

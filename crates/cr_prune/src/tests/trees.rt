@@ -50,30 +50,44 @@ fn back(problem: &Problem, walk: &mut Walk) -> Option<u8>
     Some(last.saturating_add(1))
 }
 
-// How many nodes there are below the root, down to those that are too long. Each is visited.
-fn nodes_below(alloc: Global, draft: &Draft) -> Result<u64, Fail> {
-    let problem = problem_of(alloc, draft)?;
-    let leads = lead_table(alloc, &problem)?;
-    let reach = reach_table(alloc, &leads)?;
-    let pruner = Pruner::new(&leads, &reach, &problem);
-    let mut walk = walk_of(alloc, &problem, &leads)?;
+// Visits each node below the root, down to those that are too long, and gives their number.
+fn visit_all(
+    alloc: Global,
+    problem: &Problem,
+    leads: &LeadTable,
+    reach: &ReachTable,
+    pruner: &Pruner,
+    walk: &mut Walk,
+) -> Result<u64, Fail>
+    requires same { walk.old.problem ≡ problem.now }
+    requires pruner { pruner.now.problem ≡ problem.now }
+{
     let mut nodes: u64 = 0;
     let mut step = 0;
     for _ in 0..50_000 {
-        if may_go(&problem, &walk, step) {
-            if !visit(alloc, &problem, &leads, &reach, &pruner, &mut walk, step)? {
+        if may_go(problem, walk, step) {
+            if !visit(alloc, problem, leads, reach, pruner, walk, step)? {
                 return Err(Fail::from("the pruner says something else of a node"));
             }
             nodes = nodes.saturating_add(1);
             step = 0;
         } else {
-            match back(&problem, &mut walk) {
+            match back(problem, walk) {
                 Some(next) => step = next,
                 None => return Ok(nodes),
             }
         }
     }
     Err(Fail::from("the tree has an end"))
+}
+
+fn nodes_below(alloc: Global, draft: &Draft) -> Result<u64, Fail> {
+    let problem = problem_of(alloc, draft)?;
+    let leads = lead_table(alloc, &problem)?;
+    let reach = reach_table(alloc, &leads)?;
+    let pruner = Pruner::new(&leads, &reach, &problem);
+    let mut walk = walk_of(alloc, &problem, &leads)?;
+    visit_all(alloc, &problem, &leads, &reach, &pruner, &mut walk)
 }
 
 // Two steps have 2, 4, 8 and so on nodes of one lead, two, three and so on.
