@@ -15,9 +15,6 @@ use std::test::*;
 mod plain;
 mod trees;
 
-
-
-
 // A problem in short: of each lead the method, the mark and the changes, by the places made or `x` for none. At
 // least one row fits the cells, where there are some.
 #[derive(Clone, Copy)]
@@ -182,11 +179,7 @@ fn reach_table(alloc: Global, leads: &LeadTable) -> Result<ReachTable, Fail> {
     }
 }
 
-fn walk_of<'a>(
-    alloc: Global,
-    problem: &'a Problem,
-    leads: &'a LeadTable,
-) -> Result<Walk<'a>, Fail>
+fn walk_of<'a>(alloc: Global, problem: &'a Problem, leads: &'a LeadTable) -> Result<Walk<'a>, Fail>
     requires { leads.now ≡ lead_table problem.now }
     ensures { IfOk result (λ walk. walk.problem ≡ problem.now) }
 {

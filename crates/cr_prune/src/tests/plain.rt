@@ -66,7 +66,9 @@ fn is_home(problem: &Problem, rung: &Rung) -> bool {
 fn is_far(problem: &Problem, reach: &ReachTable, rows: &[Row]) -> bool {
     match rows.last() {
         Some(head) => {
-            let least = problem.shortest().saturating_mul(u64::from(reach.at_least(head)));
+            let least = problem
+                .shortest()
+                .saturating_mul(u64::from(reach.at_least(head)));
             least.saturating_add(rows.len() as u64) > problem.cap()
         }
         None => false,
@@ -99,7 +101,9 @@ fn has_too_few(problem: &Problem, node: &[u8], left: u64) -> bool {
     }
     match query.com {
         Some(com) => {
-            let number = changes(problem, node).saturating_add(left).saturating_mul(parts);
+            let number = changes(problem, node)
+                .saturating_add(left)
+                .saturating_mul(parts);
             number.saturating_add(parts).saturating_sub(1) < com.min.unsigned_abs()
         }
         None => false,
