@@ -10,22 +10,6 @@ use Rattle.cr_model.specs.Nodes.{IsValid, Independent, Covers, nodes_above, time
 use Rattle.cr_node.specs.Work.{Work, IsJob, IsDone}
 use Rattle.cr_top.specs.Searches.{IsFoundWhole, IsUnderWay}
 
--- what is left of a job is a job
-pub rest_job : (p : ProblemParts) (job found rest : List (List ℕ)) (used : ℕ) → IsDone p job found rest used
-    → 0 < length rest → IsJob p rest
-rest_job p job found rest used done some = record {
-  some = some;
-  valid = λ i d within. (done.splits.rest_valid i d within).0;
-  independent = record {
-    nodes_apart = done.splits.independent.nodes_apart;
-    found_apart = λ i j within none. absurd (omega (arith, none));
-  };
-}
-
--- what was found has steps of the problem alone
-pub found_steps : (p : ProblemParts) (found : List (List ℕ)) → IsFoundWhole p found → All (HasSteps p) found
-found_steps p found whole = λ i d within. (whole.1.splits.found_kept i d within).0.wanted.steps
-
 -- the root is above each touch once
 root_above : (p : ProblemParts) (calling : List ℕ) → nodes_above p ([] ∷ []) calling ≡ 1
 root_above p calling = refl

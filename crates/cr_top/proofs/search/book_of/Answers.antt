@@ -2,7 +2,7 @@ use Rattle.std.proofs.Common.{[], ◌∷◌, subst}
 use Rattle.std.specs.List.Sorted.{IsSorted}
 use Rattle.cr_model.specs.Problems.{ProblemParts}
 use Rattle.cr_model.specs.Books.{book_order}
-use Rattle.cr_top.proofs.Searching.{found_each, found_kept, found_steps, root_once}
+use Rattle.cr_top.proofs.Searching.{found_each, found_kept, root_once}
 use Rattle.cr_top.proofs.search.book_of.Goals as goal
 
 pub returns : goal.returns
