@@ -3,3 +3,4 @@ pub mod Pushing
 pub mod Backwards
 pub mod Listing
 pub mod Finding
+pub mod Fitting

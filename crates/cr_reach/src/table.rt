@@ -60,8 +60,9 @@ impl ReachTable {
             depth += 1;
             fill(&mut levels, rows.len(), depth)?;
         }
+        let listed = fitted(alloc, &rows)?;
         Ok(ReachTable {
-            rows,
+            rows: listed,
             levels,
             depth,
         })
@@ -87,6 +88,18 @@ impl ReachTable {
             None => self.depth + 1,
         }
     }
+}
+
+// The same rows in a stack that has room for no more, so that a look-up in few rows touches little memory.
+fn fitted(alloc: Global, rows: &RowStack) -> Result<RowStack, NoMemory>
+    ensures { IfOk result (λ stack. stack.rows ≡ rows.now.rows) }
+{
+    let number = rows.len();
+    let mut stack = RowStack::with_room(alloc, number)?;
+    for place in 0..number {
+        stack.push(rows.row_at(place));
+    }
+    Ok(stack)
 }
 
 // Appends the level for each row that has none yet.

@@ -26,10 +26,11 @@ loop-start-preserved c =
     (c.in_ok-fill.ensures ∙ ap (λ (n : ℕ). levels ++ replicate (n - length levels) next) c.len.ensures.is)
 
 pub returns : goal.returns
-returns c =
+returns c = λ p table_is.
     let old = c.loop-start.rows in
     let new = c.push_level.new.rows in
     let start = c.loop-start.start in
-    whole_table c.the_depth_is_greatest.ensures.room c.the_depth_is_greatest.ensures.greatest c.args.leads.now c.in_ok-inverses.inverses.items
+    ap (λ (rows : List (List ℕ)). record { depth = c.loop-start.depth; rows = rows; levels = c.loop-start.levels.items }) c.in_ok-listed.ensures
+    ∙ whole_table c.the_depth_is_greatest.ensures.room c.the_depth_is_greatest.ensures.greatest c.args.leads.now c.in_ok-inverses.inverses.items
     c.args.most_rows c.loop-start.depth start old new c.loop-start.levels.items c.requires.some c.in_ok-inverses.ensures.back c.loop-start.invariant
-    (subst (λ (xs : List (List ℕ)). IsWhole old (products xs (drop start old.rows)) new) c.deref.ensures.value c.loop-start-test.ensures)
+    (subst (λ (xs : List (List ℕ)). IsWhole old (products xs (drop start old.rows)) new) c.deref.ensures.value c.loop-start-test.ensures) p table_is
