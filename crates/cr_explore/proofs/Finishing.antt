@@ -4,15 +4,12 @@ use Rattle.std.proofs.lemmas.List.{reverse-append, reverse-reverse, length_push}
 use Rattle.std.proofs.lemmas.List.Elements.{All-head, All-same, All-take, All-drop}
 use Rattle.std.proofs.lemmas.List.Sums.{sum_by-cons}
 use Rattle.std.proofs.lemmas.List.Sorted.{IsPermutation-reverse, sum_by-IsPermutation}
-use Rattle.std.specs.List.Sorted.{IsPermutation}
 use Rattle.cr_model.specs.Problems.{ProblemParts}
-use Rattle.cr_model.specs.Nodes.{IsValid, Independent, Splits, nodes_above, times_found}
+use Rattle.cr_model.specs.Nodes.{IsValid, Independent, Splits}
 use Rattle.cr_model.specs.OneTurn.{touch_found}
 use Rattle.cr_model.specs.Sizes.{most_rows, live_children, size, size_of_all}
-use Rattle.cr_model.specs.Sound.{IsSound}
-use Rattle.cr_model.specs.Touches.{Kept}
 use Rattle.cr_node.specs.Work.{IsJob, IsDone}
-use Rattle.cr_explore.specs.Turns.{Searched, begun, taken, one_turn, after_turns}
+use Rattle.cr_explore.specs.Turns.{Searched, one_turn, after_turns}
 use Rattle.cr_explore.proofs.AnyOrder.{splits_again}
 use Rattle.cr_explore.proofs.Turning.{last_taken, none_taken}
 

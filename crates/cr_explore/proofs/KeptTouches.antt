@@ -1,16 +1,13 @@
 -- When the touch of a node is kept.
-use Rattle.std.proofs.Common.{◌≡◌, ◌≢◌, ℕ, zero, suc, ◌+◌, ◌*◌, ◌/◌, ◌≤◌, ◌↔◌, Bool, true, false, ◌&&◌, pos, ◌≤ℤ◌, nat_eq, List, [], ◌∷◌, ◌++◌, length, take, flat_map, All, Option, Some, None, is_none, append-nil, refl, sym, ap, ◌∙◌, subst, arith}
-use Rattle.std.proofs.lemmas.Bool.{and_parts, true≢false, false≢true, cases_Bool}
+use Rattle.std.proofs.Common.{◌≡◌, ℕ, zero, suc, ◌+◌, ◌/◌, ◌≤◌, ◌↔◌, true, pos, ◌≤ℤ◌, nat_eq, List, [], ◌∷◌, length, take, All, Option, Some, None, is_none, append-nil, refl, sym, ap, ◌∙◌, subst, arith}
+use Rattle.std.proofs.lemmas.Bool.{and_parts, false≢true}
 use Rattle.std.proofs.Common.{eqb-true}
-use Rattle.std.specs.List.{range_with_len}
-use Rattle.cr_row.specs.Rows.{rounds}
 use Rattle.cr_model.specs.declared.query.Com.{Com}
 use Rattle.cr_model.specs.Problems.{PatternParts, ProblemParts}
-use Rattle.cr_model.specs.Callings.{HasSteps, rows_of, length_of, head_of, AllDiffer}
-use Rattle.cr_model.specs.Queries.{cap, repeated, IsWithin, leads_marked, leads_lettered, rows_fitting, MeetsCom, changes_of_method}
+use Rattle.cr_model.specs.Callings.{HasSteps, rows_of, length_of, AllDiffer}
+use Rattle.cr_model.specs.Queries.{cap, repeated, IsWithin, rows_fitting, MeetsCom, changes_of_method}
 use Rattle.cr_model.specs.Nodes.{part_of}
 use Rattle.cr_model.specs.Dead.{parts_of, turn_free}
-use Rattle.cr_model.specs.Decided.{is_kept}
 use Rattle.cr_model.specs.OneTurn.{touch_of}
 use Rattle.cr_model.specs.Sound.{IsSound}
 use Rattle.cr_model.specs.Touches.{Wanted, Kept}

@@ -2,10 +2,7 @@
 use Rattle.std.proofs.Common.{◌≡◌, ℕ, ◌+◌, ◌-◌, ◌<◌, ◌≤◌, true, false, List, [], ◌∷◌, ◌++◌, length, get_or, take, Option, Some, None, is_some, IfNone, IfSome, refl, sym, ap, ◌∙◌, ap₂, append_assoc, reverse, subst, arith}
 use Rattle.std.proofs.lemmas.Bool.{true≢false}
 use Rattle.std.proofs.lemmas.List.{length_push, get_or_push, get_or_append_left, take_more, reverse-append}
-use Rattle.std.proofs.lemmas.List.Elements.{All-head, All-from_get_or}
-use Rattle.std.specs.List.{All}
 use Rattle.cr_model.specs.Problems.{ProblemParts}
-use Rattle.cr_model.specs.Callings.{HasSteps, changes_of, changes_of_all, length_of}
 use Rattle.cr_model.specs.Limits.{most_steps}
 use Rattle.cr_model.specs.Nodes.{IsValid}
 use Rattle.cr_model.specs.Sound.{IsSound, sound_steps}
@@ -13,8 +10,8 @@ use Rattle.cr_model.specs.Dead.{dead}
 use Rattle.cr_model.specs.Sizes.{child}
 use Rattle.cr_model.proofs.Ringing.{lengths_on}
 use Rattle.cr_explore.specs.declared.search.Place.{Place}
-use Rattle.cr_explore.specs.Stacks.{first_live, live_from, untried, left_below, stack_of, IsPlace, IsTaken, IsEnded, IsPathEnded}
-use Rattle.cr_explore.proofs.Live.{IsFirstLive, first_live_is}
+use Rattle.cr_explore.specs.Stacks.{first_live, left_below, stack_of, IsPlace, IsTaken, IsPathEnded}
+use Rattle.cr_explore.proofs.Live.{first_live_is}
 use Rattle.cr_explore.proofs.Stacks.{stack_down, stack_dry, stack_up, stack_tried, below_base}
 
 module _ (p : ProblemParts) (most : ℕ) (from : List ℕ) (next : ℕ) (to : List ℕ) where

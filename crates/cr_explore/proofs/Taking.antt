@@ -1,11 +1,11 @@
 -- A search so far, told by where it stands, and turns.
-use Rattle.std.proofs.Common.{◌≡◌, ℕ, ◌+◌, ◌≤◌, List, [], ◌∷◌, ◌++◌, length, take, take_all, reverse, refl, sym, ap, ap₂, ◌∙◌, arith}
+use Rattle.std.proofs.Common.{◌≡◌, ℕ, ◌+◌, ◌≤◌, List, [], ◌++◌, length, take_all, reverse, sym, ap, ap₂, ◌∙◌, arith}
 use Rattle.cr_model.specs.Problems.{ProblemParts}
 use Rattle.cr_model.specs.OneTurn.{touch_found}
 use Rattle.cr_model.specs.Sizes.{live_children}
 use Rattle.cr_explore.specs.declared.search.Place.{Place}
 use Rattle.cr_explore.specs.Stacks.{live_from, left_below, stack_of, IsTaken, IsEnded}
-use Rattle.cr_explore.specs.Turns.{Searched, begun, after_turns}
+use Rattle.cr_explore.specs.Turns.{Searched, after_turns}
 use Rattle.cr_explore.proofs.Live.{all_live}
 use Rattle.cr_explore.proofs.Stacks.{stack_tried, below_base}
 use Rattle.cr_explore.proofs.Turning.{no_turn, turn_more, turns_end}

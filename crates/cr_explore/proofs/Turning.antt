@@ -1,10 +1,10 @@
 -- Turns, one after another.
-use Rattle.std.proofs.Common.{◌≡◌, ℕ, zero, suc, ◌+◌, ◌-◌, ◌≤◌, List, [], ◌∷◌, ◌++◌, reverse, refl, sym, ap, ◌∙◌, subst, arith}
+use Rattle.std.proofs.Common.{◌≡◌, ℕ, zero, suc, ◌+◌, ◌-◌, ◌≤◌, List, [], ◌∷◌, ◌++◌, reverse, refl, sym, ap, ◌∙◌, arith}
 use Rattle.std.proofs.lemmas.List.{reverse-append, reverse-reverse}
 use Rattle.cr_model.specs.Problems.{ProblemParts}
 use Rattle.cr_model.specs.OneTurn.{touch_found}
 use Rattle.cr_model.specs.Sizes.{live_children}
-use Rattle.cr_explore.specs.Turns.{Searched, begun, taken, one_turn, after_turns}
+use Rattle.cr_explore.specs.Turns.{begun, taken, one_turn, after_turns}
 
 module _ (p : ProblemParts) (most : ℕ) where
   -- the last node is taken

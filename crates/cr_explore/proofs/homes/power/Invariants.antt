@@ -1,4 +1,4 @@
-use Rattle.std.proofs.Common.{◌≡◌, ◌+◌, ℕ, List, length}
+use Rattle.std.proofs.Common.{◌≡◌, ℕ, List, length}
 use Rattle.cr_model.specs.Problems.{ProblemParts}
 use Rattle.cr_model.specs.Callings.{head_of}
 use Rattle.cr_model.specs.Queries.{repeated}

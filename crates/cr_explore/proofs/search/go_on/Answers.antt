@@ -1,6 +1,6 @@
-use Rattle.std.proofs.Common.{ℕ, List, ◌≡◌, ◌<◌, ◌≤◌, ◌-◌, ◌∙◌, length, get_or, take, refl, sym, ap, subst, arith}
+use Rattle.std.proofs.Common.{ℕ, List, ◌≡◌, ◌<◌, ◌≤◌, ◌-◌, ◌∙◌, length, get_or, take, sym, ap, subst, arith}
 use Rattle.cr_model.specs.Sizes.{most_rows}
-use Rattle.cr_explore.specs.Stacks.{stack_of, IsTaken}
+use Rattle.cr_explore.specs.Stacks.{IsTaken}
 use Rattle.cr_explore.proofs.Places.{job_taken}
 use Rattle.cr_explore.proofs.search.go_on.Goals as goal
 

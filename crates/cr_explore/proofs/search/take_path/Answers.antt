@@ -1,8 +1,7 @@
-use Rattle.std.proofs.Common.{ℕ, List, [], ◌∷◌, ◌≡◌, ◌<◌, ◌++◌, ◌∙◌, length, reverse, take, refl, sym, ap, subst, arith}
+use Rattle.std.proofs.Common.{ℕ, List, [], ◌∷◌, ◌≡◌, ◌<◌, ◌++◌, ◌∙◌, length, reverse, take, sym, ap, subst, arith}
 use Rattle.cr_model.specs.Problems.{ProblemParts}
 use Rattle.cr_model.specs.Sizes.{most_rows}
-use Rattle.cr_explore.specs.declared.search.Place.{Place}
-use Rattle.cr_explore.specs.Stacks.{stack_of, IsPlace, IsPathEnded, IsTaken}
+use Rattle.cr_explore.specs.Stacks.{stack_of, IsPathEnded, IsTaken}
 use Rattle.cr_explore.proofs.Places.{pushed, fewer}
 use Rattle.cr_explore.proofs.search.take_path.Goals as goal
 

@@ -1,5 +1,4 @@
 use Rattle.std.proofs.Common.{◌≡◌, ◌≤◌, take, length}
-use Rattle.cr_prune.specs.Walks.{walk_from}
 use Rattle.cr_explore.proofs.walking.go_back_to.Given as goal
 
 abbrev pub invariant-loop-walk : goal.invariant-loop-walk

@@ -1,4 +1,4 @@
-use Rattle.std.proofs.Common.{ℕ, ◌≡◌, ◌≤◌, true, false, length, sym, ap, ◌∙◌, subst, arith}
+use Rattle.std.proofs.Common.{◌≡◌, true, false, sym, ◌∙◌, subst, arith}
 use Rattle.cr_model.specs.Sizes.{most_rows, child}
 use Rattle.cr_prune.specs.Walks.{WalkParts}
 use Rattle.cr_explore.specs.Stacks.{is_live}

@@ -1,4 +1,4 @@
-use Rattle.std.proofs.Common.{◌≡◌, ◌≤◌}
+use Rattle.std.proofs.Common.{◌≡◌}
 use Rattle.cr_model.specs.Sizes.{most_rows}
 use Rattle.cr_explore.specs.Stacks.{first_live}
 use Rattle.cr_explore.proofs.walking.go_down.Given as goal
