@@ -1,0 +1,36 @@
+//! Laws of boards. Each is the contract of a function that does nothing.
+
+ghost use Rattle.std.specs.Prelude.{◌≡◌, ℕ, ◌++◌, ◌↔◌, List, []};
+ghost use Rattle.cr_model.specs.Nodes.{Covers};
+ghost use Rattle.cr_model.specs.Sizes.{most_rows, size_of_all};
+ghost use Rattle.cr_board.specs.Jobs.{OpeningParts, IsOpening, opening_nodes};
+ghost use Rattle.cr_board.specs.Boards.{BoardParts, opened, jobs_of, nodes_of};
+ghost use Rattle.cr_board.specs.Partitions.{Partition};
+ghost use Rattle.cr_board.specs.Steps.{EventStep, Ran};
+ghost use Rattle.cr_board.specs.declared.event.Event.{Event};
+
+/// The board that an opening gives has the partition, each event keeps it, and so does each list of events.
+pub fn events_keep_the_partition()
+    ensures opened { (o : OpeningParts) → IsOpening o → Partition (opened o) }
+    ensures event { (b after : BoardParts) (event : Event) → Partition b → EventStep b event after → Partition after }
+    ensures events { (b after : BoardParts) (events : List Event) → Partition b → Ran b events after → Partition after }
+{}
+
+/// Events played one list after another are the events of both lists.
+pub fn events_chain()
+    ensures { (b middle after : BoardParts) (events more : List Event) → Ran b events middle → Ran middle more after
+        → Ran b (events ++ more) after }
+{}
+
+/// Found touches and open nodes cover together exactly what the opening covered; where no job is left, the found
+/// touches do, and the turns spent are the size of the opening's nodes.
+pub fn a_board_covers_its_opening()
+    ensures covers { (b : BoardParts) (calling : List ℕ) → Partition b
+        → Covers b.opening.problem b.found (nodes_of b) calling
+            ↔ Covers b.opening.problem b.opening.found (opening_nodes b.opening) calling }
+    ensures finished { (b : BoardParts) (calling : List ℕ) → Partition b → jobs_of b ≡ []
+        → Covers b.opening.problem b.found [] calling
+            ↔ Covers b.opening.problem b.opening.found (opening_nodes b.opening) calling }
+    ensures size { (b : BoardParts) → Partition b → jobs_of b ≡ []
+        → b.spent ≡ size_of_all b.opening.problem most_rows (opening_nodes b.opening) }
+{}
