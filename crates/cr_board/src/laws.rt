@@ -9,12 +9,16 @@ ghost use Rattle.cr_board.specs.Partitions.{Partition};
 ghost use Rattle.cr_board.specs.Steps.{EventStep, Ran};
 ghost use Rattle.cr_board.specs.declared.event.Event.{Event};
 
+use cr_model::laws::{a_split_among_others, covers_are_counted};
+
 /// The board that an opening gives has the partition, each event keeps it, and so does each list of events.
 pub fn events_keep_the_partition()
     ensures opened { (o : OpeningParts) → IsOpening o → Partition (opened o) }
     ensures event { (b after : BoardParts) (event : Event) → Partition b → EventStep b event after → Partition after }
     ensures events { (b after : BoardParts) (events : List Event) → Partition b → Ran b events after → Partition after }
-{}
+{
+    a_split_among_others();
+}
 
 /// Events played one list after another are the events of both lists.
 pub fn events_chain()
@@ -33,4 +37,6 @@ pub fn a_board_covers_its_opening()
             ↔ Covers b.opening.problem b.opening.found (opening_nodes b.opening) calling }
     ensures size { (b : BoardParts) → Partition b → jobs_of b ≡ []
         → b.spent ≡ size_of_all b.opening.problem most_rows (opening_nodes b.opening) }
-{}
+{
+    covers_are_counted();
+}

@@ -1,0 +1,9 @@
+pub mod Sums
+pub mod Apart
+pub mod Parting
+pub mod Finding
+pub mod Asking
+pub mod Moving
+pub mod Events
+pub mod Openings
+pub mod Covering
