@@ -7,3 +7,6 @@ pub mod Moving
 pub mod Events
 pub mod Openings
 pub mod Covering
+pub mod Numbers
+pub mod HallFacts
+pub mod Replaying

@@ -1,5 +1,5 @@
 -- What a journal says: lanes of job numbers, what each worker holds, the next number, and the turns spent.
-use Rattle.std.specs.Prelude.{◌≡◌, ℕ, ◌+◌, ◌-◌, ◌<◌, ◌≤◌, min, cond, nat_eq, List, [], ◌∷◌, ◌++◌, length, get_or, map, set, replicate, sum_by, Contains, Option, Some, None}
+use Rattle.std.specs.Prelude.{◌≡◌, ℕ, ◌+◌, ◌-◌, ◌<◌, ◌≤◌, min, cond, nat_eq, List, [], ◌∷◌, ◌++◌, length, get_or, map, set, replicate, sum_by, count_by, Contains, Option, Some, None}
 use Rattle.std.specs.List.{range_with_len}
 use Rattle.cr_board.specs.Jobs.{JobParts, OpeningParts}
 use Rattle.cr_board.specs.Boards.{BoardParts}
@@ -123,3 +123,11 @@ pub record IsReplayed (b : BoardParts) : Type 0 where
   pub allowed : AreAllowed b.opening (start b.opening) b.journal
   pub hall : hall_of b ≡ replay b.opening b.journal
   pub found : (more : List (List ℕ)) × (b.found ≡ b.opening.found ++ more) × (length more ≡ sum_by touches_of b.journal)
+
+-- how often a job number stands in lanes and is held
+abbrev pub grip_times : ℕ → Option Grip → ℕ
+grip_times number None = 0
+grip_times number (Some grip) = cond (nat_eq grip.number number) 1 0
+
+abbrev pub times_in : Hall → ℕ → ℕ
+times_in h number = sum_by (count_by (λ x. nat_eq x number)) h.lanes + sum_by (grip_times number) h.held

@@ -1,13 +1,15 @@
 //! Laws of boards. Each is the contract of a function that does nothing.
 
-ghost use Rattle.std.specs.Prelude.{◌≡◌, ℕ, ◌++◌, ◌↔◌, List, []};
+ghost use Rattle.std.specs.Prelude.{◌≡◌, ℕ, ◌++◌, ◌+◌, ◌≤◌, ◌↔◌, List, [], Some, sum_by};
 ghost use Rattle.cr_model.specs.Nodes.{Covers};
 ghost use Rattle.cr_model.specs.Sizes.{most_rows, size_of_all};
 ghost use Rattle.cr_board.specs.Jobs.{OpeningParts, IsOpening, opening_nodes};
 ghost use Rattle.cr_board.specs.Boards.{BoardParts, opened, jobs_of, nodes_of};
+ghost use Rattle.cr_board.specs.Halls.{IsReplayed, AreAllowed, start, replay, times_in, grant_of};
 ghost use Rattle.cr_board.specs.Partitions.{Partition};
 ghost use Rattle.cr_board.specs.Steps.{EventStep, Ran};
 ghost use Rattle.cr_board.specs.declared.event.Event.{Event};
+ghost use Rattle.cr_board.specs.declared.entry.Entry.{Entry};
 
 use cr_model::laws::{a_split_among_others, covers_are_counted};
 
@@ -40,3 +42,13 @@ pub fn a_board_covers_its_opening()
 {
     covers_are_counted();
 }
+
+/// The board that an opening gives is told by its empty journal. What a journal replays to has no job number twice, and
+/// no more turns spent and granted than the budget.
+pub fn journals_tell_boards()
+    ensures opened { (o : OpeningParts) → IsReplayed (opened o) }
+    ensures numbers { (o : OpeningParts) (journal : List Entry) → 1 ≤ o.workers → AreAllowed o (start o) journal
+        → (number : ℕ) → times_in (replay o journal) number ≤ 1 }
+    ensures budget { (o : OpeningParts) (journal : List Entry) (budget : ℕ) → 1 ≤ o.workers → AreAllowed o (start o) journal
+        → o.budget ≡ Some budget → (replay o journal).spent + sum_by grant_of (replay o journal).held ≤ budget }
+{}
