@@ -8,6 +8,10 @@ use Rattle.cr_board.specs.declared.held.Held.{Held}
 use Rattle.cr_board.specs.declared.place.Place.{Place}
 use Rattle.cr_board.specs.declared.refusal.Refusal.{Refusal}
 use Rattle.cr_board.specs.declared.entry.Entry.TheVariants.{Take, Hand, Back}
+use Rattle.cr_board.specs.declared.verdict.Verdict.{Verdict}
+use Rattle.cr_board.specs.declared.verdict.Verdict.TheVariants as verdict
+use Rattle.cr_board.specs.declared.opened.Opened.{Opened}
+use Rattle.cr_board.specs.declared.opened.Opened.TheVariants as opened
 use Rattle.cr_board.specs.declared.handed.Handed.{Handed}
 use Rattle.cr_board.specs.declared.handed.Handed.TheVariants as handed
 
@@ -86,22 +90,32 @@ pub record IsDue (b : BoardParts) (worker number : ℕ) (work : Work) : Type 0 w
   pub job : work.job ≡ held.job.nodes
   pub within : work.used ≤ held.grant
 
--- the worker holds the job of this number, and finished work is of the problem
-pub record IsOfHeld (b : BoardParts) (worker number : ℕ) (held : Held) : Type 0 where
-  pub holds : held_at b.held worker ≡ Some held
-  pub number_is : held.job.number ≡ number
+-- the worker holds the job of this number
+pub record IsOfHeld (b : BoardParts) (worker number : ℕ) (mine : Held) : Type 0 where
+  pub holds : held_at b.held worker ≡ Some mine
+  pub number_is : mine.job.number ≡ number
+
+-- what finished work on the job of a number deserves: the first of these that holds
+abbrev pub Judges : BoardParts → ℕ → ℕ → Work → Verdict → Type 0
+Judges b worker number work (verdict.NotHeld other) = (other ≡ number_of (held_at b.held worker)) × (other ≢ Some number)
+Judges b worker number work verdict.OtherProblem = ((mine : Held) × IsOfHeld b worker number mine) × (work.problem ≢ b.opening.problem)
+Judges b worker number work verdict.OtherJob = (mine : Held) × IsOfHeld b worker number mine
+    × (work.problem ≡ b.opening.problem) × (work.job ≢ mine.job.nodes)
+Judges b worker number work (verdict.Over grant) = (mine : Held) × IsOfHeld b worker number mine
+    × (work.problem ≡ b.opening.problem) × (work.job ≡ mine.job.nodes) × (grant ≡ mine.grant) × (grant < work.used)
+Judges b worker number work verdict.Due = IsDue b worker number work
 
 -- what finished work that is handed in is answered, and the board after it
 abbrev pub HandsIn : BoardParts → ℕ → ℕ → Work → Handed → BoardParts → Type 0
-HandsIn b worker number work handed.In after = IsDue b worker number work × (after ≡ handed_in b worker number work)
-HandsIn b worker number work (handed.NotHeld back other) after =
-    (back ≡ work) × (other ≡ number_of (held_at b.held worker)) × (other ≢ Some number) × (after ≡ b)
-HandsIn b worker number work (handed.OtherProblem back) after =
-    (back ≡ work) × (number_of (held_at b.held worker) ≡ Some number) × (work.problem ≢ b.opening.problem) × (after ≡ b)
-HandsIn b worker number work (handed.OtherJob back mine) after =
-    (back ≡ work) × (mine ≡ number) × (work.problem ≡ b.opening.problem)
-    × (held : Held) × IsOfHeld b worker number held × (work.job ≢ held.job.nodes) × (after ≡ b)
-HandsIn b worker number work (handed.Over back grant) after =
-    (back ≡ work) × (work.problem ≡ b.opening.problem)
-    × (held : Held) × IsOfHeld b worker number held × (work.job ≡ held.job.nodes) × (grant ≡ held.grant) × (grant < work.used) × (after ≡ b)
-HandsIn b worker number work (handed.NoMemory back) after = (back ≡ work) × IsDue b worker number work × (after ≡ b)
+HandsIn b worker number work handed.In after = Judges b worker number work verdict.Due × (after ≡ handed_in b worker number work)
+HandsIn b worker number work (handed.NotHeld back other) after = (back ≡ work) × Judges b worker number work (verdict.NotHeld other) × (after ≡ b)
+HandsIn b worker number work (handed.OtherProblem back) after = (back ≡ work) × Judges b worker number work verdict.OtherProblem × (after ≡ b)
+HandsIn b worker number work (handed.OtherJob back mine) after = (back ≡ work) × (mine ≡ number) × Judges b worker number work verdict.OtherJob × (after ≡ b)
+HandsIn b worker number work (handed.Over back grant) after = (back ≡ work) × Judges b worker number work (verdict.Over grant) × (after ≡ b)
+HandsIn b worker number work (handed.NoMemory back) after = (back ≡ work) × Judges b worker number work verdict.Due × (after ≡ b)
+
+-- the jobs of what was opened
+abbrev pub opened_jobs : Opened → List (List (List ℕ))
+opened_jobs opened.Nothing = []
+opened_jobs (opened.Whole nodes) = nodes.items ∷ []
+opened_jobs (opened.Halves first second) = first.items ∷ second.items ∷ []

@@ -11,6 +11,7 @@ mod held;
 mod job;
 mod lanes;
 pub mod laws;
+mod opened;
 mod opening;
 mod place;
 mod places;
@@ -21,6 +22,7 @@ mod same;
 mod state;
 mod taken;
 mod taking;
+mod verdict;
 
 pub use board::Board;
 pub use entry::Entry;
