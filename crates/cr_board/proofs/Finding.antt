@@ -1,9 +1,12 @@
 -- The first number that passes a test.
-use Rattle.std.proofs.Common.{◌≡◌, ℕ, zero, suc, ◌+◌, ◌-◌, ◌<◌, ◌≤◌, Bool, true, false, cond, List, [], ◌∷◌, ◌++◌, Option, Some, None, is_some, refl, sym, ap, ◌∙◌, subst, arith}
+use Rattle.std.proofs.Common.{◌≡◌, ℕ, zero, suc, ◌+◌, ◌-◌, ◌<◌, ◌≤◌, Bool, true, false, cond, List, [], ◌∷◌, ◌++◌, Option, Some, None, is_some, inl, inr, refl, sym, ap, ◌∙◌, subst, arith}
 use Rattle.std.specs.Prelude.{find}
 use Rattle.std.specs.List.{range_with_len}
+use Rattle.std.proofs.lemmas.Bool.{cases_eq}
 use Rattle.std.proofs.lemmas.Option.{none-some, same_Some}
-use Rattle.cr_board.specs.Choices.{first_from}
+use Rattle.std.specs.Option.{option_or}
+use Rattle.std.proofs.lemmas.List.Folds.{find-append}
+use Rattle.cr_board.specs.Choices.{first_from, round}
 
 module _ (test : ℕ → Bool) where
   -- what is found passes, and is one of the numbers
@@ -61,3 +64,33 @@ module _ (test : ℕ → Bool) where
           let there = sym (ap (λ b. cond b (Some from) (find test (range_with_len (from + 1) count))) fails) ∙ none in
           let e : from + suc j ≡ from + 1 + j = omega arith in
           ap test e ∙ later there j (omega arith)
+
+module _ (test : ℕ → Bool) (from end : ℕ) where
+  -- the first number that passes, where none before it does
+  pub first_at : (at : ℕ) → ((k : ℕ) → from ≤ k → k < at → test k ≡ false) → from ≤ at → at < end → test at ≡ true → Some at ≡ first_from test from end
+  first_at at none low high passes =
+      let place : from + (at - from) ≡ at = omega arith in
+      sym (first_is test from (at - from) (end - from) (λ k below. none (from + k) (omega arith) (omega arith)) (omega arith) (ap test place ∙ passes) ∙ ap Some place)
+
+  -- and none, where none does
+  pub none_at : ((k : ℕ) → from ≤ k → k < end → test k ≡ false) → None ≡ first_from test from end
+  none_at none = sym (none_is test from (end - from) (λ k below. none (from + k) (omega arith) (omega arith)))
+
+-- one number more that does not pass
+pub none_more : (test : ℕ → Bool) (from at : ℕ) → ((k : ℕ) → from ≤ k → k < at → test k ≡ false) → test at ≡ false → (k : ℕ) → from ≤ k → k < at + 1 → test k ≡ false
+none_more test from at none fails k low below = elim (cases_eq k at) [
+  | inl e ↦ ap test e ∙ fails
+  | inr differ ↦ none k low (omega arith)
+]
+
+module _ (test : ℕ → Bool) (worker workers : ℕ) where
+  -- what is found from a worker on is found on the way round
+  pub round_up : (lane : ℕ) → Some lane ≡ first_from test worker workers → Some lane ≡ find test (round worker workers)
+  round_up lane is = ap (λ o. option_or o (find test (range_with_len 0 worker))) is ∙ sym (find-append test (range_with_len worker (workers - worker)) (range_with_len 0 worker))
+
+  -- and else what is found below it
+  pub round_down : (lane : Option ℕ) → None ≡ first_from test worker workers → lane ≡ first_from test 0 worker → lane ≡ find test (round worker workers)
+  round_down lane none is =
+      let e : worker - 0 ≡ worker = omega arith in
+      is ∙ ap (λ n. find test (range_with_len 0 n)) e ∙ ap (λ o. option_or o (find test (range_with_len 0 worker))) none
+      ∙ sym (find-append test (range_with_len worker (workers - worker)) (range_with_len 0 worker))

@@ -10,3 +10,5 @@ pub mod Covering
 pub mod Numbers
 pub mod HallFacts
 pub mod Replaying
+pub mod Reading
+pub mod Rooms

@@ -5,9 +5,14 @@ use Rattle.std.proofs.lemmas.List.{length-set, length-replicate, get_or-replicat
 use Rattle.std.proofs.lemmas.List.Sums.{sum_by-cons, sum_by-set}
 use Rattle.std.proofs.lemmas.List.Folds.{sum_by-replicate}
 use Rattle.cr_model.specs.Problems.{ProblemParts}
+use Rattle.std.specs.List.Sorted.{IsStrictlySortedBy}
+use Rattle.std.specs.declared.cmp.Ordering.{Ordering}
+use Rattle.cr_model.specs.Books.{book_order}
 use Rattle.cr_model.specs.Touches.{Kept}
 use Rattle.cr_model.specs.Nodes.{IsValid, Independent}
-use Rattle.cr_board.specs.Jobs.{JobParts, OpeningParts, IsOpening, numbered, opening_nodes}
+use Rattle.std.proofs.lemmas.List.Elements.{All-nil}
+use Rattle.cr_node.specs.Work.{IsJob}
+use Rattle.cr_board.specs.Jobs.{JobParts, OpeningParts, IsOpening, opening_from, numbered, opening_nodes}
 use Rattle.cr_board.specs.Boards.{held_at, jobs_of, nodes_of, opened}
 use Rattle.cr_board.specs.Partitions.{IsPartition, Partition}
 use Rattle.cr_board.specs.declared.held.Held.{Held}
@@ -73,3 +78,24 @@ opened_is o opening = record {
       | inl inside ↦ get_or-replicate o.workers worker None None inside
       | inr past ↦ get_or_past (replicate o.workers None) worker None (omega (arith, length-replicate {A = Option Held} o.workers None))
     ]
+
+-- no touch stands in order
+none_ascend : {K : Type 0} (cmp : K → K → Ordering) → IsStrictlySortedBy cmp []
+unfolding IsStrictlySortedBy
+none_ascend cmp = tt
+
+-- what the root makes is an opening
+pub fresh_is : (p : ProblemParts) (budget : Option ℕ) (workers : ℕ) → IsJob p ([] ∷ []) → 1 ≤ workers → workers ≤ 64 → IsOpening (opening_from p [] (([] ∷ []) ∷ []) budget workers)
+fresh_is p budget workers job some few = record {
+  kept = All-nil (Kept p);
+  ascending = none_ascend (book_order p);
+  filled = λ k d inside. one k d inside;
+  valid = job.valid;
+  independent = job.independent;
+  some = some;
+  few = few;
+}
+  where
+    one : (k : ℕ) (d : List (List ℕ)) → k < 1 → 0 < length (get_or (([] ∷ []) ∷ []) k d)
+    one zero d inside = omega arith
+    one (suc k) d inside = absurd (omega arith)

@@ -1,6 +1,6 @@
 //! Work on lanes and on what is held, without a word on the rest of the board.
 
-ghost use Rattle.std.specs.Prelude.{◌≡◌, ◌≢◌, ℕ, ◌+◌, ◌<◌, ◌≤◌, [], ◌∷◌, ◌++◌, None, length, set, get_or, remove, replicate, IfOk, OnOk, vec_len, vec_capacity};
+ghost use Rattle.std.specs.Prelude.{◌≡◌, ◌≢◌, ℕ, ◌+◌, ◌<◌, ◌≤◌, [], ◌∷◌, ◌++◌, None, Some, length, set, get_or, remove, replicate, IfOk, OnOk, vec_len, vec_capacity};
 ghost use Rattle.cr_board.specs.Boards.{lane_at, held_at};
 ghost use Rattle.cr_board.specs.Choices.{job_at};
 ghost use Rattle.cr_board.specs.Rooms.{jobs_on, HasRoom};
@@ -16,6 +16,7 @@ use std::mem;
 pub fn put<T: Drop>(list: &mut Vec<T>, item: T)
     requires { vec_len list.old < vec_capacity list.old }
     ensures items { list.new.items ≡ list.old.items ++ item ∷ [] }
+    ensures len { vec_len list.new ≡ vec_len list.old + 1 }
     ensures room { vec_capacity list.old ≤ vec_capacity list.new }
 {
     match list.push(item) {
@@ -81,8 +82,17 @@ pub fn push_job(lanes: &mut Vec<Vec<LaneJob>>, worker: usize, job: LaneJob)
     ensures lanes { jobs_on lanes.new.items ≡ set (jobs_on lanes.old.items) worker (lane_at (jobs_on lanes.old.items) worker ++ job ∷ []) }
     ensures others { (lane more : ℕ) → lane ≢ worker → HasRoom lanes.old.items lane more → HasRoom lanes.new.items lane more }
     ensures own { (more : ℕ) → HasRoom lanes.old.items worker (more + 1) → HasRoom lanes.new.items worker more }
+    ensures len { vec_len lanes.new ≡ vec_len lanes.old }
 {
     put(&mut lanes[worker], job);
+}
+
+/// Lets a worker hold a job.
+pub fn take_hold(held: &mut Vec<Option<Held>>, worker: usize, mine: Held)
+    requires { worker < vec_len held.old }
+    ensures { held.new.items ≡ set held.old.items worker (Some mine) }
+{
+    held[worker] = Some(mine);
 }
 
 /// Takes from a worker what it holds.
@@ -90,6 +100,7 @@ pub fn let_go(held: &mut Vec<Option<Held>>, worker: usize) -> Option<Held>
     requires { worker < vec_len held.old }
     ensures is { result ≡ held_at held.old.items worker }
     ensures held { held.new.items ≡ set held.old.items worker None }
+    ensures len { vec_len held.new ≡ vec_len held.old }
 {
     mem::replace(&mut held[worker], None)
 }

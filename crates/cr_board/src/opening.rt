@@ -6,6 +6,7 @@ ghost use Rattle.cr_board.specs.Jobs.{IsOpening, opening_from};
 use crate::copies::{copy_callings, copy_jobs, root_job};
 use cr_model::{Calling, Problem};
 use cr_node::Node;
+use cr_node::laws::work_goes_on;
 use cr_row::NoMemory;
 use std::alloc::Global;
 use std::marker::Model;
@@ -68,6 +69,7 @@ impl Opening {
         requires few { workers ≤ 64 }
         ensures { IfOk result (λ o. o ≡ opening_from problem [] (([] ∷ []) ∷ []) budget workers) }
     {
+        work_goes_on();
         let jobs = root_job(alloc)?;
         Ok(Opening {
             problem,

@@ -60,7 +60,8 @@ pub fn place_in(lane: &[LaneJob], number: u64) -> Option<usize>
 
 // The first lane where a job has this number.
 fn lane_with(lanes: &[Vec<LaneJob>], number: u64) -> Option<usize>
-    ensures { result ≡ first_from (has_number (jobs_on lanes.now) number) 0 (length lanes.now) }
+    ensures is { result ≡ first_from (has_number (jobs_on lanes.now) number) 0 (length lanes.now) }
+    ensures inside { IfSome result (λ lane. lane < length lanes.now) }
 {
     for lane in 0..lanes.len() {
         if place_in(&lanes[lane], number).is_some() {

@@ -39,6 +39,8 @@ fn give_back(state: &mut State, worker: u32)
     requires rooms { HasRooms state.old }
     ensures is { (o : OpeningParts) → parts_of o state.new ≡ given_back (parts_of o state.old) worker }
     ensures rooms { HasRooms state.new }
+    ensures held { vec_len state.new.held ≡ vec_len state.old.held }
+    ensures lanes { vec_len state.new.lanes ≡ vec_len state.old.lanes }
 {
     if let Some(held) = let_go(&mut state.held, worker as usize) {
         let entry = Entry::Back {

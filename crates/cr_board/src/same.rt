@@ -6,6 +6,13 @@ use crate::opening::Opening;
 use cr_model::Calling;
 use cr_node::Node;
 
+// Whether two lists of steps are the same.
+fn same_steps(a: &[u8], b: &[u8]) -> bool
+    ensures { IsTrue result ↔ (a.now ≡ b.now) }
+{
+    a == b
+}
+
 /// Whether two lists of nodes are the same.
 pub fn same_nodes(a: &[Node], b: &[Node]) -> bool
     ensures { IsTrue result ↔ (a.now ≡ b.now) }
@@ -14,7 +21,7 @@ pub fn same_nodes(a: &[Node], b: &[Node]) -> bool
         return false;
     }
     for index in 0..a.len() {
-        if a[index].steps() != b[index].steps() {
+        if !same_steps(a[index].steps(), b[index].steps()) {
             return false;
         }
     }
@@ -29,7 +36,7 @@ fn same_callings(a: &[Calling], b: &[Calling]) -> bool
         return false;
     }
     for index in 0..a.len() {
-        if a[index].steps() != b[index].steps() {
+        if !same_steps(a[index].steps(), b[index].steps()) {
             return false;
         }
     }

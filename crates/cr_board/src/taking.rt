@@ -12,7 +12,7 @@ use crate::copies::copy_nodes;
 use crate::entry::Entry;
 use crate::held::Held;
 use crate::job::Ticket;
-use crate::lanes::{put, reserve_lane, take_job};
+use crate::lanes::{put, reserve_lane, take_hold, take_job};
 use crate::place::Place;
 use crate::places::{first_holding, next_lane, place_of};
 use crate::refusal::Refusal;
@@ -193,11 +193,19 @@ fn promised_turns(state: &State, most: u64) -> u64
 {
     let mut turns = state.spent as u64;
     for held in &state.held {
-        if let Some(held) = held {
-            turns += held.grant;
-        }
+        turns += grant_of(held);
     }
     turns
+}
+
+// The grant of what a worker holds, if anything.
+fn grant_of(held: &Option<Held>) -> u64
+    ensures { result ≡ held_grant held.now }
+{
+    match held {
+        Some(held) => held.grant,
+        None => 0,
+    }
 }
 
 // Makes the room that a worker's take and its Back need. Err where no memory is left.
@@ -233,5 +241,5 @@ fn hold(state: &mut State, worker: u32, place: Place, grant: u64)
         grant,
     };
     put(&mut state.journal, entry);
-    state.held[worker as usize] = Some(Held { job, grant });
+    take_hold(&mut state.held, worker as usize, Held { job, grant });
 }
