@@ -13,7 +13,7 @@ use Rattle.cr_board.specs.declared.held.Held.{Held}
 use Rattle.cr_board.specs.declared.place.Place.{Place}
 use Rattle.cr_board.specs.declared.refusal.Refusal.{Refusal}
 use Rattle.cr_board.specs.declared.refusal.Refusal.TheVariants as refusal
-use Rattle.cr_board.proofs.Finding.{found_passes}
+use Rattle.cr_board.proofs.Finding.{found_passes, round_passes}
 
 -- a worker that is not refused
 pub record IsFree (b : BoardParts) (who : ℕ) : Type 0 where
@@ -38,14 +38,6 @@ free_from b worker free = by (nat_lt worker b.opening.workers) (get_or b.resigne
     by true true e f = absurd (none-some refusal.Stranger (sym (sym (ap (λ s. cond s (Some refusal.Stranger) (refusal_to b (held_at b.held worker))) (ap (λ i. not i || get_or b.resigned worker false) e ∙ f)) ∙ free)))
     by false r e f = absurd (none-some refusal.Stranger (sym (sym (ap (λ s. cond s (Some refusal.Stranger) (refusal_to b (held_at b.held worker))) (ap (λ i. not i || get_or b.resigned worker false) e)) ∙ free)))
 
--- what is found in one of two lists is found in the first or in the second
-found_in_two : {X : Type 0} (test : X → Bool) (xs ys : List X) (x : X) → find test (xs ++ ys) ≡ Some x → (find test xs ≡ Some x) ⊎ (find test ys ≡ Some x)
-found_in_two {X} test xs ys x found = by (find test xs) refl
-  where
-    by : (first : Option X) → find test xs ≡ first → (find test xs ≡ Some x) ⊎ (find test ys ≡ Some x)
-    by (Some y) e = inl (e ∙ sym (ap (λ o. option_or o (find test ys)) e) ∙ sym (find-append test xs ys) ∙ found)
-    by None e = inr (sym (ap (λ o. option_or o (find test ys)) e) ∙ sym (find-append test xs ys) ∙ found)
-
 module _ (b : BoardParts) (lanes : length b.lanes ≡ b.opening.workers) where
   -- the place of a worker's next job
   pub next_stands : (worker : ℕ) (place : Place) → worker < b.opening.workers → next_place b worker ≡ Some place → Stands b.lanes place
@@ -60,10 +52,7 @@ module _ (b : BoardParts) (lanes : length b.lanes ≡ b.opening.workers) where
           at true some = omega arith
           at false some = some
       in_round : (lane : ℕ) → find (is_busy b.lanes) (round worker b.opening.workers) ≡ Some lane → Stands b.lanes (end_of b worker lane)
-      in_round lane e = elim (found_in_two (is_busy b.lanes) (range_with_len worker (b.opening.workers - worker)) (range_with_len 0 worker) lane e) [
-        | inl first ↦ let (busy, low, high) = found_passes (is_busy b.lanes) worker (b.opening.workers - worker) lane first in stands lane busy (omega arith)
-        | inr second ↦ let (busy, low, high) = found_passes (is_busy b.lanes) 0 worker lane second in stands lane busy (omega arith)
-      ]
+      in_round lane e = let (busy, within) = round_passes (is_busy b.lanes) worker b.opening.workers lane inside e in stands lane busy within
       by : (lane : Option ℕ) → find (is_busy b.lanes) (round worker b.opening.workers) ≡ lane → Stands b.lanes place
       by (Some lane) e = subst (Stands b.lanes) (same_Some (end_of b worker lane) place (sym (ap (option_map (end_of b worker)) e) ∙ found)) (in_round lane e)
       by None e = absurd (none-some place (sym (ap (option_map (end_of b worker)) e) ∙ found))

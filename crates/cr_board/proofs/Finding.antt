@@ -1,5 +1,5 @@
 -- The first number that passes a test.
-use Rattle.std.proofs.Common.{◌≡◌, ℕ, zero, suc, ◌+◌, ◌-◌, ◌<◌, ◌≤◌, Bool, true, false, cond, List, [], ◌∷◌, ◌++◌, Option, Some, None, is_some, inl, inr, refl, sym, ap, ◌∙◌, subst, arith}
+use Rattle.std.proofs.Common.{◌≡◌, ℕ, zero, suc, ◌+◌, ◌-◌, ◌<◌, ◌≤◌, ◌⊎◌, Bool, true, false, cond, List, [], ◌∷◌, ◌++◌, Option, Some, None, is_some, inl, inr, refl, sym, ap, ◌∙◌, subst, arith}
 use Rattle.std.specs.Prelude.{find}
 use Rattle.std.specs.List.{range_with_len}
 use Rattle.std.proofs.lemmas.Bool.{cases_eq}
@@ -94,3 +94,18 @@ module _ (test : ℕ → Bool) (worker workers : ℕ) where
       let e : worker - 0 ≡ worker = omega arith in
       is ∙ ap (λ n. find test (range_with_len 0 n)) e ∙ ap (λ o. option_or o (find test (range_with_len 0 worker))) none
       ∙ sym (find-append test (range_with_len worker (workers - worker)) (range_with_len 0 worker))
+
+-- what is found in one of two lists is found in the first or in the second
+found_in_two : {X : Type 0} (test : X → Bool) (xs ys : List X) (x : X) → find test (xs ++ ys) ≡ Some x → (find test xs ≡ Some x) ⊎ (find test ys ≡ Some x)
+found_in_two {X} test xs ys x found = by (find test xs) refl
+  where
+    by : (first : Option X) → find test xs ≡ first → (find test xs ≡ Some x) ⊎ (find test ys ≡ Some x)
+    by (Some y) e = inl (e ∙ sym (ap (λ o. option_or o (find test ys)) e) ∙ sym (find-append test xs ys) ∙ found)
+    by None e = inr (sym (ap (λ o. option_or o (find test ys)) e) ∙ sym (find-append test xs ys) ∙ found)
+
+-- what is found on the way round passes, and is one of the numbers
+pub round_passes : (test : ℕ → Bool) (worker workers lane : ℕ) → worker < workers → find test (round worker workers) ≡ Some lane → (test lane ≡ true) × (lane < workers)
+round_passes test worker workers lane inside found = elim (found_in_two test (range_with_len worker (workers - worker)) (range_with_len 0 worker) lane found) [
+  | inl first ↦ let (passes, low, high) = found_passes test worker (workers - worker) lane first in (passes, omega arith)
+  | inr second ↦ let (passes, low, high) = found_passes test 0 worker lane second in (passes, omega arith)
+]

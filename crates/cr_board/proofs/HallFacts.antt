@@ -1,5 +1,5 @@
 -- What every replay keeps: no number stands twice, and no more is granted than the budget.
-use Rattle.std.proofs.Common.{◌≡◌, ℕ, zero, suc, ◌+◌, ◌-◌, ◌*◌, ◌<◌, ◌≤◌, min, cond, nat_eq, List, [], ◌∷◌, ◌++◌, length, get_or, set, replicate, sum_by, Contains, Option, Some, None, inl, inr, refl, sym, ap, ◌∙◌, subst, arith}
+use Rattle.std.proofs.Common.{◌≡◌, ℕ, zero, suc, ◌+◌, ◌-◌, ◌*◌, ◌<◌, ◌≤◌, min, cond, nat_eq, List, [], ◌∷◌, ◌++◌, length, get_or, set, replicate, sum_by, Contains, Option, Some, None, IfSome, inl, inr, refl, sym, ap, ◌∙◌, subst, arith}
 use Rattle.std.specs.List.{range_with_len}
 use Rattle.std.proofs.lemmas.Bool.{cases_lt}
 use Rattle.std.proofs.lemmas.Option.{none-some}
@@ -168,3 +168,7 @@ pub budget_kept : (o : OpeningParts) (journal : List Entry) (budget : ℕ) → 1
 budget_kept o journal budget some allowed is =
     subst (λ b. Within b ((after_entries (start o) journal).spent + sum_by grant_of (after_entries (start o) journal).held)) is
       (entries_keep o (start o) journal (start_keeps o some) allowed).within
+
+pub within_some : (budget : Option ℕ) (used : ℕ) → Within budget used → IfSome budget (λ most. used ≤ most)
+within_some None used within = tt
+within_some (Some most) used within = within

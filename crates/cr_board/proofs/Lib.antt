@@ -12,3 +12,4 @@ pub mod HallFacts
 pub mod Replaying
 pub mod Reading
 pub mod Rooms
+pub mod Keeping

@@ -2,7 +2,7 @@
 use Rattle.std.proofs.Common.{◌≡◌, ℕ, zero, suc, ◌+◌, ◌-◌, ◌<◌, ◌≤◌, Bool, true, false, nat_eq, nat_lt, List, [], ◌∷◌, ◌++◌, length, get_or, set, map, take, replicate, Option, Some, None, is_some, vec_len, refl, sym, ap, ap₂, ◌∙◌, subst, arith, eq-eqb}
 use Rattle.std.specs.Prelude.{◌==◌}
 use Rattle.std.specs.Global.{Vec}
-use Rattle.std.proofs.lemmas.Bool.{lt-ltb, le-ltb, eqb-true, eqb-false}
+use Rattle.std.proofs.lemmas.Bool.{lt-ltb, le-ltb, ltb-true, eqb-true, eqb-false}
 use Rattle.std.proofs.lemmas.List.{get_or_default, get_or-map, map-append, take_more, replicate_more, get_or-set_same, append_assoc}
 use Rattle.cr_board.specs.Jobs.{JobParts, numbered}
 use Rattle.cr_board.specs.Boards.{lane_at, held_at}
@@ -81,3 +81,7 @@ two_put lanes once worker first second inside is =
     ∙ ap (λ l. set (set lanes worker (lane_at lanes worker ++ first ∷ [])) worker (l ++ second ∷ [])) (get_or-set_same lanes worker (lane_at lanes worker ++ first ∷ []) [] inside)
     ∙ set_again lanes worker (lane_at lanes worker ++ first ∷ []) ((lane_at lanes worker ++ first ∷ []) ++ second ∷ [])
     ∙ ap (set lanes worker) (append_assoc (lane_at lanes worker) (first ∷ []) (second ∷ []))
+
+-- a busy lane has a job
+pub busy_some : (lanes : List (List JobParts)) (i : ℕ) → is_busy lanes i ≡ true → 1 ≤ length (lane_at lanes i)
+busy_some lanes i busy = ltb-true 0 (length (lane_at lanes i)) busy

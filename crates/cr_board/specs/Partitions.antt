@@ -4,7 +4,7 @@ use Rattle.cr_model.specs.Problems.{ProblemParts}
 use Rattle.cr_model.specs.Touches.{Kept}
 use Rattle.cr_model.specs.Nodes.{IsValid, Independent, nodes_above, times_found}
 use Rattle.cr_model.specs.Sizes.{most_rows, size_of_all}
-use Rattle.cr_board.specs.Jobs.{opening_nodes}
+use Rattle.cr_board.specs.Jobs.{IsOpening, opening_nodes}
 use Rattle.cr_board.specs.Boards.{BoardParts, held_at, jobs_of, nodes_of}
 use Rattle.cr_board.specs.Halls.{IsReplayed}
 
@@ -32,7 +32,8 @@ pub record Partition (b : BoardParts) : Type 0 where
   pub filled : All (λ job. 0 < length job.nodes) (jobs_of b)
   pub resigned : (worker : ℕ) → get_or b.resigned worker false ≡ true → held_at b.held worker ≡ None
 
--- what every board keeps
+-- what every board keeps: the facts of its opening, the partition, and that the journal tells it
 pub record IsKept (b : BoardParts) : Type 0 where
+  pub opening : IsOpening b.opening
   pub partition : Partition b
   pub replayed : IsReplayed b

@@ -35,7 +35,8 @@ pub fn next_lane(lanes: &[Vec<LaneJob>], worker: usize) -> Option<usize>
 
 /// The least worker that holds a job.
 pub fn first_holding(held: &[Option<Held>]) -> Option<usize>
-    ensures { result ≡ first_from (is_holding held.now) 0 (length held.now) }
+    ensures is { result ≡ first_from (is_holding held.now) 0 (length held.now) }
+    ensures inside { IfSome result (λ worker. worker < length held.now) }
 {
     for worker in 0..held.len() {
         if held[worker].is_some() {

@@ -41,6 +41,7 @@ fn give_back(state: &mut State, worker: u32)
     ensures rooms { HasRooms state.new }
     ensures held { vec_len state.new.held ≡ vec_len state.old.held }
     ensures lanes { vec_len state.new.lanes ≡ vec_len state.old.lanes }
+    ensures resigned { state.new.resigned ≡ state.old.resigned }
 {
     if let Some(held) = let_go(&mut state.held, worker as usize) {
         let entry = Entry::Back {
@@ -59,6 +60,7 @@ fn give_all_back(state: &mut State, workers: u32)
     requires rooms { HasRooms state.old }
     ensures is { (o : OpeningParts) → parts_of o state.new ≡ back_below (parts_of o state.old) workers }
     ensures rooms { HasRooms state.new }
+    ensures resigned { state.new.resigned ≡ state.old.resigned }
 {
     for worker in 0..workers {
         give_back(state, worker);

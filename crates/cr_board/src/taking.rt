@@ -4,6 +4,7 @@ ghost use Rattle.std.specs.Prelude.{◌≡◌, ℕ, ◌+◌, ◌-◌, ◌<◌, �
 ghost use Rattle.cr_board.specs.Jobs.{OpeningParts};
 ghost use Rattle.cr_board.specs.Boards.{held_at, held_grant, promised};
 ghost use Rattle.cr_board.specs.Choices.{refusal_of, refusal_to, next_place, next_answer, answer_by, claim_place, claim_answer, claimed_by, ticket_at, grant_now, waits_for, first_from, is_holding, Stands};
+ghost use Rattle.cr_board.specs.Partitions.{IsKept};
 ghost use Rattle.cr_board.specs.Moves.{taken_at, after_ask, after_next, after_claim};
 ghost use Rattle.cr_board.specs.Rooms.{jobs_on, parts_of, holding, HasRoom, HasRooms};
 
@@ -134,7 +135,7 @@ impl Board {
     fn next_place(&self, worker: u32) -> Option<Place>
         requires { worker < self.now.opening.workers }
         ensures is { result ≡ next_place self.now worker }
-        ensures stands { IfSome result (Stands self.now.lanes) }
+        ensures kept { IsKept self.now }
     {
         let own = worker as usize;
         let lane = next_lane(&self.state.lanes, own)?;
@@ -149,7 +150,7 @@ impl Board {
     // Where the job of a number stands.
     fn claim_place(&self, number: u64) -> Option<Place>
         ensures is { result ≡ claim_place self.now number }
-        ensures stands { IfSome result (Stands self.now.lanes) }
+        ensures kept { IsKept self.now }
     {
         place_of(&self.state.lanes, number)
     }

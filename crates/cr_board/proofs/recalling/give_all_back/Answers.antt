@@ -11,4 +11,5 @@ loop-worker-preserved c = (
   c.give_back.ensures.rooms,
   c.give_back.ensures.held ∙ c.loop-worker.invariant.2,
   c.give_back.ensures.lanes ∙ c.loop-worker.invariant.3,
+  c.give_back.ensures.resigned ∙ c.loop-worker.invariant.4,
 )
