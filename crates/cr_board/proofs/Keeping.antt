@@ -3,7 +3,8 @@ use Rattle.std.proofs.Common.{◌≡◌, ℕ, zero, suc, ◌+◌, ◌<◌, ◌�
 use Rattle.cr_node.specs.Work.{Work, IsJob, IsDone}
 use Rattle.cr_model.specs.Nodes.{Splits, Independent}
 use Rattle.cr_model.specs.Sizes.{most_rows, size_of_all}
-use Rattle.cr_board.specs.Jobs.{OpeningParts, IsOpening}
+use Rattle.cr_board.specs.Jobs.{JobParts, OpeningParts, IsOpening}
+use Rattle.cr_board.specs.declared.entry.Entry.{Entry}
 use Rattle.cr_board.specs.Boards.{BoardParts, held_at, opened, promised}
 use Rattle.cr_board.specs.Halls.{IsReplayed}
 use Rattle.cr_board.specs.Choices.{refusal_of, Stands}
@@ -73,3 +74,11 @@ hand_keeps among b worker mine work holds splits sizes within kept = record {
 pub on_err : {X E : Type 0} (r : Result X E) (P : Type 0) → P → OnErr r P
 on_err (Ok x) P p = tt
 on_err (Err e) P p = p
+
+-- parts that agree are one board
+pub same_board : (o : OpeningParts) (lanes more : List (List JobParts)) (held other : List (Option Held)) (flags signs : List Bool) (found touches : List (List ℕ)) (spent next number : ℕ) (journal entries : List Entry)
+    → lanes ≡ more → held ≡ other → flags ≡ signs → found ≡ touches → next ≡ number → journal ≡ entries
+    → ◌≡◌ {A = BoardParts} (record { opening = o; lanes = lanes; held = held; resigned = flags; found = found; spent = spent; next = next; journal = journal })
+        (record { opening = o; lanes = more; held = other; resigned = signs; found = touches; spent = spent; next = number; journal = entries })
+same_board o lanes more held other flags signs found touches spent next number journal entries a b c d e f =
+    λ i. record { opening = o; lanes = a i; held = b i; resigned = c i; found = d i; spent = spent; next = e i; journal = f i }

@@ -13,3 +13,4 @@ pub mod Replaying
 pub mod Reading
 pub mod Rooms
 pub mod Keeping
+pub mod Ending

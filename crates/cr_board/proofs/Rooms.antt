@@ -1,10 +1,11 @@
 -- The room for jobs that go back, after each move.
-use Rattle.std.proofs.Common.{◌≡◌, ◌≢◌, ℕ, suc, ◌+◌, ◌-◌, ◌<◌, ◌≤◌, Bool, true, false, cond, List, [], ◌∷◌, ◌++◌, length, get_or, set, map, sum_by, Option, Some, None, is_some, vec_len, inl, inr, refl, sym, ap, ◌∙◌, subst, arith}
+use Rattle.std.proofs.Common.{◌≡◌, ◌≢◌, ℕ, zero, suc, ◌+◌, ◌*◌, ◌-◌, ◌<◌, ◌≤◌, Bool, true, false, cond, List, [], ◌∷◌, ◌++◌, length, get_or, set, map, replicate, sum_by, Option, Some, None, is_some, vec_len, inl, inr, refl, sym, ap, ◌∙◌, subst, arith}
 use Rattle.std.specs.Prelude.{vec_capacity}
 use Rattle.std.specs.Global.{Vec}
 use Rattle.std.proofs.lemmas.Bool.{cases_eq, false≢true}
 use Rattle.std.proofs.lemmas.List.{get_or-set_same, get_or-set_other}
 use Rattle.std.proofs.lemmas.List.Sums.{sum_by-set, count_by-le-length}
+use Rattle.std.proofs.lemmas.List.Folds.{sum_by-replicate}
 use Rattle.cr_board.specs.Jobs.{JobParts}
 use Rattle.cr_board.specs.Boards.{held_at}
 use Rattle.cr_board.specs.Choices.{is_holding}
@@ -59,3 +60,12 @@ rooms_stay s t same kept len more rooms = record {
       let count : holding t.held.items ≡ holding s.held.items = ap (λ h. holding h.items) same in
       omega (arith, rooms.journal, count, len, more);
 }
+
+-- nobody holds a job
+pub none_holding : (count k : ℕ) → is_holding (replicate count None) k ≡ false
+none_holding zero k = refl
+none_holding (suc count) zero = refl
+none_holding (suc count) (suc k) = none_holding count k
+
+pub holding_none : (count : ℕ) → holding (replicate count None) ≡ 0
+holding_none count = sum_by-replicate (λ h. cond (is_some h) 1 0) count None ∙ omega arith
