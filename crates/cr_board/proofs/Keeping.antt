@@ -9,7 +9,7 @@ use Rattle.cr_board.specs.Boards.{BoardParts, held_at, opened, promised}
 use Rattle.cr_board.specs.Halls.{IsReplayed}
 use Rattle.cr_board.specs.Choices.{refusal_of, Stands}
 use Rattle.cr_board.specs.Partitions.{Partition, IsKept}
-use Rattle.cr_board.specs.Moves.{taken_at, put_back, given_back, after_resigning, back_below, after_recall, handed_in}
+use Rattle.cr_board.specs.Moves.{taken_at, put_back, given_back, after_resigning, back_below, after_recall, handed_in, IsDue}
 use Rattle.cr_board.specs.declared.held.Held.{Held}
 use Rattle.cr_board.specs.declared.place.Place.{Place}
 use Rattle.cr_board.proofs.Parting.{AmongOthers}
@@ -82,3 +82,13 @@ pub same_board : (o : OpeningParts) (lanes more : List (List JobParts)) (held ot
         (record { opening = o; lanes = more; held = other; resigned = signs; found = touches; spent = spent; next = number; journal = entries })
 same_board o lanes more held other flags signs found touches spent next number journal entries a b c d e f =
     λ i. record { opening = o; lanes = a i; held = b i; resigned = c i; found = d i; spent = spent; next = e i; journal = f i }
+
+pub due_keeps : AmongOthers → (b : BoardParts) (worker number : ℕ) (work : Work) → IsDue b worker number work
+    → IsDone work.problem work.job work.found work.rest work.used → IsKept b → IsKept (handed_in b worker number work)
+due_keeps among b worker number work due done kept =
+    subst (λ n. IsKept (handed_in b worker n work)) due.number_is
+      (hand_keeps among b worker due.held work due.holds
+        (subst (λ p. Splits p due.held.job.nodes work.found work.rest) due.problem (subst (λ j. Splits work.problem j work.found work.rest) due.job done.splits))
+        (subst (λ p. size_of_all p most_rows work.rest + work.used ≡ size_of_all p most_rows due.held.job.nodes) due.problem
+          (subst (λ j. size_of_all work.problem most_rows work.rest + work.used ≡ size_of_all work.problem most_rows j) due.job done.size))
+        due.within kept)

@@ -19,6 +19,7 @@ use crate::same::same_nodes;
 use crate::state::State;
 use crate::verdict::Verdict;
 use cr_model::Calling;
+use cr_model::laws::a_split_among_others;
 use cr_node::{Done, DoneParts};
 use cr_row::NoMemory;
 
@@ -79,6 +80,7 @@ impl Board {
         requires { IsDue self.old worker number done }
         ensures { HandsIn self.old worker number done result self.new }
     {
+        a_split_among_others();
         if make_hand_room(&mut self.state, worker as usize, done.found().len()).is_err() {
             return Handed::NoMemory(done);
         }
