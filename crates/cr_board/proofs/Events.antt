@@ -138,3 +138,28 @@ after_events among b after (event ∷ events) part (middle, step, ran) = after_e
 pub chained : (b middle after : BoardParts) (events more : List Event) → Ran b events middle → Ran middle more after → Ran b (events ++ more) after
 chained b middle after [] more one two = subst (λ m. Ran m more after) one two
 chained b middle after (event ∷ events) more (next, step, one) two = (next, step, chained next middle after events more one two)
+
+-- one event more
+pub ran_more : (b middle after : BoardParts) (events : List Event) (event : Event) → Ran b events middle → EventStep middle event after → Ran b (events ++ event ∷ []) after
+ran_more b middle after events event ran step = chained b middle after events (event ∷ []) ran (after, step, refl)
+
+-- the opening stays
+asking_stays : (b : BoardParts) (worker : ℕ) (r : Option Refusal) (place : Option Place) → (after_ask b worker r place).opening ≡ b.opening
+asking_stays b worker (Some r) place = refl
+asking_stays b worker None (Some place) = refl
+asking_stays b worker None None = refl
+
+pub opening_stays : (b after : BoardParts) (event : Event) → EventStep b event after → after.opening ≡ b.opening
+opening_stays b after (Next worker) step = ap (λ a. a.opening) step ∙ asking_stays b worker (refusal_of b worker) (next_place b worker)
+opening_stays b after (Claim worker number) step = ap (λ a. a.opening) step ∙ asking_stays b worker (refusal_of b worker) (claim_place b number)
+opening_stays b after (Works worker) step = by (held_at b.held worker) step
+  where
+    by : (h : Option Held) → WorkStep b worker h after → after.opening ≡ b.opening
+    by None same = ap (λ a. a.opening) same
+    by (Some mine) (work, worked, is) = ap (λ a. a.opening) is
+opening_stays b after (Resign worker) step = ap (λ a. a.opening) step ∙ by (nat_lt worker b.opening.workers)
+  where
+    by : (inside : Bool) → (cond inside (after_resigning b worker) b).opening ≡ b.opening
+    by true = (giving_keeps b worker).0
+    by false = refl
+opening_stays b after Recall step = ap (λ a. a.opening) step ∙ below_keeps b b.opening.workers

@@ -1,13 +1,13 @@
 -- The partition after a take, a Back and a hand-in.
-use Rattle.std.proofs.Common.{◌≡◌, ◌≢◌, ℕ, zero, suc, ◌+◌, ◌-◌, ◌/◌, ◌<◌, ◌≤◌, ◌⊎◌, Bool, true, false, cond, nat_eq, List, [], ◌∷◌, ◌++◌, length, get_or, set, take, drop, replicate, sum_by, count_by, flat_map, All, Option, Some, None, inl, inr, refl, sym, ap, ap₂, ◌∙◌, subst, arith, add-zero, eqb-true}
+use Rattle.std.proofs.Common.{◌≡◌, ◌≢◌, ℕ, zero, suc, ◌+◌, ◌-◌, ◌/◌, ◌<◌, ◌≤◌, ◌⊎◌, Bool, true, false, cond, nat_eq, List, [], ◌∷◌, ◌++◌, length, get_or, set, take, drop, replicate, sum_by, count_by, flat_map, All, Option, Some, None, inl, inr, refl, sym, ap, ap₂, ◌∙◌, subst, arith, length-append, add-zero, eqb-true}
 use Rattle.std.specs.Prelude.{remove}
 use Rattle.std.proofs.lemmas.Bool.{cases_eq, cases_lt, true≢false, eqb-false}
 use Rattle.std.proofs.lemmas.Option.{none-some}
-use Rattle.std.proofs.lemmas.List.{length-set, get_or-set_same, get_or-set_other, get_or_past, set_past, take-append-drop, length-take-le, length-drop}
+use Rattle.std.proofs.lemmas.List.{length-set, get_or-set_same, get_or-set_other, get_or_past, set_past, take-append-drop, length-take-le, length-drop, get_or-append-add}
 use Rattle.std.proofs.lemmas.List.Sums.{sum_by-append, sum_by-cons}
-use Rattle.cr_model.specs.Nodes.{Splits}
+use Rattle.cr_model.specs.Nodes.{is_prefix, IsValid, Independent, Splits}
 use Rattle.cr_model.specs.Sizes.{most_rows, size_of_all}
-use Rattle.cr_node.specs.Work.{Work}
+use Rattle.cr_node.specs.Work.{Work, IsJob}
 use Rattle.cr_board.specs.Jobs.{JobParts, numbered, opening_nodes}
 use Rattle.cr_board.specs.Boards.{BoardParts, lane_at, held_at, held_jobs, jobs_in, nodes_in, jobs_of, nodes_of}
 use Rattle.cr_board.specs.Choices.{job_at, grant_now, Stands}
@@ -16,7 +16,7 @@ use Rattle.cr_board.specs.Moves.{taken_at, put_back, handed_in, halves}
 use Rattle.cr_board.specs.declared.held.Held.{Held}
 use Rattle.cr_board.specs.declared.place.Place.{Place}
 use Rattle.cr_board.proofs.Sums.{HaveSame, same_nodes, sum_joined, jobs_sum, lane_put, lane_left, held_more, held_less}
-use Rattle.cr_board.proofs.Apart.{none_count, none_passes}
+use Rattle.cr_board.proofs.Apart.{none_count, none_passes, same_all, from_counts, one_begins_each}
 use Rattle.cr_board.proofs.Parting.{AmongOthers, moved, handed_over}
 
 -- a job has no node
@@ -147,6 +147,41 @@ module _ (b : BoardParts) (part : Partition b) where
       filled = count_filled (jobs_of (put_back b worker (Some mine))) (back_same (λ job. cond (is_empty job) 1 0) ∙ filled_count (jobs_of b) part.filled);
       resigned = lets_go;
     }
+
+    -- its nodes beside those of all other jobs
+    beside : HaveSame (nodes_of b) (nodes_in (jobs_in b.lanes (set b.held worker None)) ++ mine.job.nodes)
+    beside f =
+        let rest = jobs_in b.lanes (set b.held worker None) in
+        omega (arith, sum_by-append f (nodes_in rest) mine.job.nodes, sum_joined f (λ job. job.nodes) rest, sum_joined f (λ job. job.nodes) (jobs_of b),
+          held_less (λ job. sum_by f job.nodes) b.held worker mine inside holds, jobs_sum (λ job. sum_by f job.nodes) b.lanes b.held,
+          jobs_sum (λ job. sum_by f job.nodes) b.lanes (set b.held worker None))
+
+    -- what a worker holds is a job
+    pub is_job : IsJob b.opening.problem mine.job.nodes
+    is_job = record { some = some; valid = valid; independent = independent }
+      where
+        some : 0 < length mine.job.nodes
+        some =
+            let count : JobParts → ℕ = λ job. cond (is_empty job) 1 0 in
+            let none = filled_count (jobs_of b) part.filled in
+            let one : cond {A = ℕ} (is_empty mine.job) 1 0 ≡ 0 = omega (arith, none, held_less count b.held worker mine inside holds, jobs_sum count b.lanes b.held) in
+            by (is_empty mine.job) refl one
+          where
+            by : (e : Bool) → is_empty mine.job ≡ e → cond {A = ℕ} e 1 0 ≡ 0 → 0 < length mine.job.nodes
+            by true e one = absurd (omega (arith, one))
+            by false e one = let differ = eqb-false (length mine.job.nodes) 0 e in omega (arith, differ)
+        valid : All (IsValid b.opening.problem) mine.job.nodes
+        valid k d within =
+            let before = nodes_in (jobs_in b.lanes (set b.held worker None)) in
+            let whole = same_all (IsValid b.opening.problem) (nodes_of b) (before ++ mine.job.nodes) beside part.nodes.valid in
+            subst (IsValid b.opening.problem) (get_or-append-add before mine.job.nodes k d) (whole (length before + k) d (omega (arith, length-append before mine.job.nodes)))
+        independent : Independent b.opening.problem [] mine.job.nodes
+        independent = from_counts b.opening.problem [] mine.job.nodes
+            (λ word.
+              let before = nodes_in (jobs_in b.lanes (set b.held worker None)) in
+              omega (arith, one_begins_each b.opening.problem b.found (nodes_of b) part.nodes.independent word, beside (λ node. cond (is_prefix node word) 1 0),
+                sum_by-append (λ node. cond (is_prefix node word) 1 0) before mine.job.nodes))
+            (λ j outside. absurd (omega arith))
 
     module _ (among : AmongOthers) (number : ℕ) (work : Work) (splits : Splits b.opening.problem mine.job.nodes work.found work.rest)
         (sizes : size_of_all b.opening.problem most_rows work.rest + work.used ≡ size_of_all b.opening.problem most_rows mine.job.nodes) where

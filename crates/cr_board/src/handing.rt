@@ -5,6 +5,7 @@ ghost use Rattle.cr_node.specs.Work.{Work};
 ghost use Rattle.cr_board.specs.Jobs.{OpeningParts, numbered};
 ghost use Rattle.cr_board.specs.Boards.{lane_at, held_at};
 ghost use Rattle.cr_board.specs.Choices.{is_holding};
+ghost use Rattle.cr_board.specs.Partitions.{IsKept};
 ghost use Rattle.cr_board.specs.Moves.{IsDue, Judges, HandsIn, handed_in, halves, opened_jobs};
 ghost use Rattle.cr_board.specs.Rooms.{jobs_on, parts_of, HasRoom, HasRooms, HasHandRoom, IsHanding};
 
@@ -66,7 +67,8 @@ impl Board {
 
     /// What a worker of any number holds.
     pub(crate) fn held_by(&self, worker: u32) -> Option<&Held>
-        ensures { option_map (λ held. held.now) result ≡ held_at self.now.held worker }
+        ensures is { option_map (λ held. held.now) result ≡ held_at self.now.held worker }
+        ensures kept { IsKept self.now }
     {
         match self.state.held.get(worker as usize) {
             Some(Some(held)) => Some(held),
