@@ -1,5 +1,5 @@
 -- What a board answers to a worker that asks for a job.
-use Rattle.std.specs.Prelude.{◌≡◌, ℕ, ◌+◌, ◌-◌, ◌<◌, Bool, true, false, cond, not, ◌||◌, nat_eq, nat_lt, List, [], ◌++◌, length, get_or, find, Option, Some, None, is_some, option_map}
+use Rattle.std.specs.Prelude.{◌≡◌, ℕ, ◌+◌, ◌-◌, ◌<◌, Bool, true, false, cond, not, ◌||◌, nat_eq, nat_lt, List, [], ◌++◌, length, get_or, find, Option, Some, None, is_some, option_map, ⊤}
 use Rattle.std.specs.List.{range_with_len}
 use Rattle.cr_board.specs.Jobs.{JobParts, TicketParts}
 use Rattle.cr_board.specs.Boards.{BoardParts, lane_at, held_at, promised}
@@ -114,3 +114,19 @@ claimed_by b None None = claimed.Stale
 -- what a worker that asks for the job of a number is answered
 abbrev pub claim_answer : BoardParts → ℕ → ℕ → Claimed
 claim_answer b worker number = claimed_by b (refusal_of b worker) (claim_place b number)
+
+-- what holds after an answer that is no job
+abbrev pub UnlessTaken : Taken → Type 0 → Type 0
+UnlessTaken taken.Stranger P = P
+UnlessTaken (taken.Holding number) P = P
+UnlessTaken taken.Spent P = P
+UnlessTaken (taken.Job ticket) P = ⊤
+UnlessTaken (taken.Wait worker) P = P
+UnlessTaken taken.Empty P = P
+
+abbrev pub UnlessClaimed : Claimed → Type 0 → Type 0
+UnlessClaimed claimed.Stranger P = P
+UnlessClaimed (claimed.Holding number) P = P
+UnlessClaimed claimed.Spent P = P
+UnlessClaimed claimed.Stale P = P
+UnlessClaimed (claimed.Job ticket) P = ⊤

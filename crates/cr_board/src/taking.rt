@@ -3,7 +3,7 @@
 ghost use Rattle.std.specs.Prelude.{◌≡◌, ℕ, ◌+◌, ◌-◌, ◌<◌, ◌≤◌, option_map, sum_by, IfOk, IfSome, OnOk, OnErr, vec_len, vec_capacity};
 ghost use Rattle.cr_board.specs.Jobs.{OpeningParts};
 ghost use Rattle.cr_board.specs.Boards.{held_at, held_grant, promised};
-ghost use Rattle.cr_board.specs.Choices.{refusal_of, refusal_to, next_place, next_answer, answer_by, claim_place, claim_answer, claimed_by, ticket_at, grant_now, waits_for, first_from, is_holding, Stands};
+ghost use Rattle.cr_board.specs.Choices.{refusal_of, refusal_to, next_place, next_answer, answer_by, claim_place, claim_answer, claimed_by, ticket_at, grant_now, waits_for, first_from, is_holding, Stands, UnlessTaken, UnlessClaimed};
 ghost use Rattle.cr_board.specs.Partitions.{IsKept};
 ghost use Rattle.cr_board.specs.Moves.{taken_at, after_ask, after_next, after_claim};
 ghost use Rattle.cr_board.specs.Rooms.{jobs_on, parts_of, holding, HasRoom, HasRooms};
@@ -32,6 +32,7 @@ impl Board {
     pub fn next_job(&mut self, alloc: Global, worker: u32) -> Result<Taken, NoMemory>
         ensures answer { IfOk result (λ taken. taken ≡ next_answer self.old worker) }
         ensures board { OnOk result (self.new ≡ after_next self.old worker) }
+        ensures unchanged { IfOk result (λ taken. UnlessTaken taken (self.new ≡ self.old)) }
         ensures err { OnErr result (self.new ≡ self.old) }
     {
         match self.refusal(worker) {
@@ -48,6 +49,7 @@ impl Board {
     pub fn claim(&mut self, alloc: Global, worker: u32, number: u64) -> Result<Claimed, NoMemory>
         ensures answer { IfOk result (λ claimed. claimed ≡ claim_answer self.old worker number) }
         ensures board { OnOk result (self.new ≡ after_claim self.old worker number) }
+        ensures unchanged { IfOk result (λ claimed. UnlessClaimed claimed (self.new ≡ self.old)) }
         ensures err { OnErr result (self.new ≡ self.old) }
     {
         match self.refusal(worker) {
@@ -110,6 +112,7 @@ impl Board {
         requires { refusal_of self.old worker ≡ None }
         ensures answer { IfOk result (λ taken. taken ≡ answer_by self.old None (next_place self.old worker)) }
         ensures board { OnOk result (self.new ≡ after_ask self.old worker None (next_place self.old worker)) }
+        ensures unchanged { IfOk result (λ taken. UnlessTaken taken (self.new ≡ self.old)) }
         ensures err { OnErr result (self.new ≡ self.old) }
     {
         match self.next_place(worker) {
@@ -123,6 +126,7 @@ impl Board {
         requires { refusal_of self.old worker ≡ None }
         ensures answer { IfOk result (λ claimed. claimed ≡ claimed_by self.old None (claim_place self.old number)) }
         ensures board { OnOk result (self.new ≡ after_ask self.old worker None (claim_place self.old number)) }
+        ensures unchanged { IfOk result (λ claimed. UnlessClaimed claimed (self.new ≡ self.old)) }
         ensures err { OnErr result (self.new ≡ self.old) }
     {
         match self.claim_place(number) {
