@@ -131,3 +131,9 @@ grip_times number (Some grip) = cond (nat_eq grip.number number) 1 0
 
 abbrev pub times_in : Hall → ℕ → ℕ
 times_in h number = sum_by (count_by (λ x. nat_eq x number)) h.lanes + sum_by (grip_times number) h.held
+
+-- the entries of all held jobs that go back, from a worker on
+abbrev pub backs : ℕ → List (Option Held) → List Entry
+backs worker [] = []
+backs worker (None ∷ held) = backs (worker + 1) held
+backs worker (Some mine ∷ held) = Back worker mine.job.number ∷ backs (worker + 1) held

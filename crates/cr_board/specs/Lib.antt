@@ -6,3 +6,4 @@ pub mod Choices
 pub mod Moves
 pub mod Steps
 pub mod Rooms
+pub mod Examples
