@@ -1,0 +1,62 @@
+use Rattle.std.proofs.Common.{◌≡◌, ◌≤◌, ◌<◌, length, is_some, vec_len, refl, sym, ap, ◌∙◌, subst, arith}
+use Rattle.std.proofs.lemmas.List.{length-map}
+use Rattle.cr_board.specs.Boards.{BoardParts}
+use Rattle.cr_board.specs.Choices.{is_holding}
+use Rattle.cr_board.specs.Partitions.{IsKept}
+use Rattle.cr_board.specs.Moves.{IsDue, handed_in}
+use Rattle.cr_board.specs.Rooms.{parts_of}
+use Rattle.cr_board.proofs.Moving.{holder_inside}
+use Rattle.cr_board.proofs.Keeping.{due_keeps}
+use Rattle.cr_board.proofs.board.Board.accept.Goals as goal
+
+pub invariant_of-self : goal.invariant_of-self
+invariant_of-self c = record {
+  facts = subst IsKept (sym (c.make_hand_room.ensures.same c.self.inside.opening)) c.self.invariant.facts;
+  rooms = c.make_hand_room.ensures.kept c.self.invariant.rooms;
+}
+
+pub returns-then-is_err : goal.returns-then-is_err
+returns-then-is_err c = (refl, c.requires, c.make_hand_room.ensures.same c.self.inside.opening ∙ c.self.view_is)
+
+pub hand_over-requires-clause-worker : goal.hand_over-requires-clause-worker
+hand_over-requires-clause-worker c =
+    let inside = holder_inside c.args.self.now.held c.args.worker c.requires.held c.requires.holds in
+    let held : length c.make_hand_room.new.state.held.items ≡ length c.args.self.now.held = ap (λ (b : BoardParts). length b.held) (c.make_hand_room.ensures.same c.self.inside.opening ∙ c.self.view_is) in
+    omega (arith, inside, held, c.make_hand_room.new.state.held.ok)
+
+pub hand_over-requires-clause-lane : goal.hand_over-requires-clause-lane
+hand_over-requires-clause-lane c =
+    let inside = holder_inside c.args.self.now.held c.args.worker c.requires.held c.requires.holds in
+    let held : length c.make_hand_room.new.state.held.items ≡ length c.args.self.now.held = ap (λ (b : BoardParts). length b.held) (c.make_hand_room.ensures.same c.self.inside.opening ∙ c.self.view_is) in
+    let kept : IsKept (parts_of c.self.inside.opening c.make_hand_room.new.state) = subst IsKept (sym (c.make_hand_room.ensures.same c.self.inside.opening)) c.self.invariant.facts in
+    omega (arith, inside, held, kept.partition.shape.held, kept.partition.shape.lanes, length-map c.make_hand_room.new.state.lanes.items (λ lane. lane.items), c.make_hand_room.new.state.lanes.ok)
+
+pub hand_over-requires-clause-holds : goal.hand_over-requires-clause-holds
+hand_over-requires-clause-holds c =
+    ap (λ (b : BoardParts). is_holding b.held c.args.worker) (c.make_hand_room.ensures.same c.self.inside.opening ∙ c.self.view_is) ∙ ap is_some c.requires.holds
+
+-- the board after the hand-in
+is_handed : (c : goal.After-hand_over) → parts_of c.self.inside.opening c.hand_over.new.state ≡ handed_in (parts_of c.self.inside.opening c.self.inside.state) c.args.worker c.args.number c.args.done
+is_handed c =
+    c.hand_over.ensures.is c.self.inside.opening c.args.done (record { used = c.in-Ok.ensures.used; found = c.in-Ok.ensures.found; opened = c.in-Ok.ensures.opened })
+    ∙ ap (λ b. handed_in b c.args.worker c.args.number c.args.done) (c.make_hand_room.ensures.same c.self.inside.opening)
+
+pub invariant_of-self-in-Ok : goal.invariant_of-self-in-Ok
+invariant_of-self-in-Ok c = record {
+  facts = subst IsKept (sym (is_handed c))
+      (due_keeps c.a_split_among_others.ensures (parts_of c.self.inside.opening c.self.inside.state) c.args.worker c.args.number c.args.done
+        (subst (λ b. IsDue b c.args.worker c.args.number c.args.done) (sym c.self.view_is) c.requires) c.found.ensures.done c.self.invariant.facts);
+  rooms = c.hand_over.ensures.rooms;
+}
+
+pub invariant_of-self-in-Err : goal.invariant_of-self-in-Err
+invariant_of-self-in-Err c = record {
+  facts = subst IsKept (sym (c.make_hand_room.ensures.same c.self.inside.opening)) c.self.invariant.facts;
+  rooms = c.make_hand_room.ensures.kept c.self.invariant.rooms;
+}
+
+pub returns-in-Ok : goal.returns-in-Ok
+returns-in-Ok c = (c.requires, is_handed c ∙ ap (λ b. handed_in b c.args.worker c.args.number c.args.done) c.self.view_is)
+
+pub returns-in-Err : goal.returns-in-Err
+returns-in-Err c = (c.in-Err.ensures.back, c.requires, c.make_hand_room.ensures.same c.self.inside.opening ∙ c.self.view_is)

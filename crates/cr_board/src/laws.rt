@@ -1,0 +1,116 @@
+//! Laws of boards. Each is the contract of a function that does nothing.
+
+ghost use Rattle.std.specs.Prelude.{◌≡◌, ℕ, ◌+◌, ◌≤◌, ◌++◌, ◌↔◌, List, [], ◌∷◌, Some, None, length, map, sum_by, Contains};
+ghost use Rattle.cr_model.specs.Nodes.{Covers};
+ghost use Rattle.cr_model.specs.Sizes.{most_rows, size_of_all};
+ghost use Rattle.cr_board.specs.Jobs.{OpeningParts, IsOpening, opening_nodes};
+ghost use Rattle.cr_board.specs.Boards.{BoardParts, opened, lane_at, held_at, held_jobs, jobs_of, nodes_of};
+ghost use Rattle.cr_board.specs.Halls.{IsReplayed, IsAllowed, AreAllowed, start, replay, times_in, grant_of, granted, numbers_of, backs};
+ghost use Rattle.cr_board.specs.Partitions.{HasShape, Partition};
+ghost use Rattle.cr_board.specs.Choices.{round, next_answer, claim_place, claim_answer};
+ghost use Rattle.cr_board.specs.Moves.{halves, after_recall};
+ghost use Rattle.cr_board.specs.Steps.{EventStep, Ran};
+ghost use Rattle.cr_board.specs.Examples.{two_jobs, script};
+ghost use Rattle.cr_board.specs.declared.event.Event.{Event};
+ghost use Rattle.cr_board.specs.declared.entry.Entry.{Entry};
+ghost use Rattle.cr_board.specs.declared.entry.Entry.TheVariants.{Take, Hand, Back};
+ghost use Rattle.cr_board.specs.declared.taken.Taken.TheVariants as taken;
+ghost use Rattle.cr_board.specs.declared.taken.Claimed.TheVariants as claimed;
+
+use cr_model::laws::{a_split_among_others, covers_are_counted};
+
+/// The board that an opening gives has the partition, each event keeps it, and so does each list of events.
+pub fn events_keep_the_partition()
+    ensures opened { (o : OpeningParts) → IsOpening o → Partition (opened o) }
+    ensures event { (b after : BoardParts) (event : Event) → Partition b → EventStep b event after → Partition after }
+    ensures events { (b after : BoardParts) (events : List Event) → Partition b → Ran b events after → Partition after }
+{
+    a_split_among_others();
+}
+
+/// Events played one list after another are the events of both lists.
+pub fn events_chain()
+    ensures { (b middle after : BoardParts) (events more : List Event) → Ran b events middle → Ran middle more after
+        → Ran b (events ++ more) after }
+{}
+
+/// Found touches and open nodes cover together exactly what the opening covered; where no job is left, the found
+/// touches do, and the turns spent are the size of the opening's nodes.
+pub fn a_board_covers_its_opening()
+    ensures covers { (b : BoardParts) (calling : List ℕ) → Partition b
+        → Covers b.opening.problem b.found (nodes_of b) calling
+            ↔ Covers b.opening.problem b.opening.found (opening_nodes b.opening) calling }
+    ensures finished { (b : BoardParts) (calling : List ℕ) → Partition b → jobs_of b ≡ []
+        → Covers b.opening.problem b.found [] calling
+            ↔ Covers b.opening.problem b.opening.found (opening_nodes b.opening) calling }
+    ensures size { (b : BoardParts) → Partition b → jobs_of b ≡ []
+        → b.spent ≡ size_of_all b.opening.problem most_rows (opening_nodes b.opening) }
+    ensures left { (b : BoardParts) (budget : ℕ) → Partition b → b.spent ≡ budget
+        → size_of_all b.opening.problem most_rows (nodes_of b) + budget ≡ size_of_all b.opening.problem most_rows (opening_nodes b.opening) }
+{
+    covers_are_counted();
+}
+
+/// The board that an opening gives is told by its empty journal. What a journal replays to has no job number twice, and
+/// no more turns spent and granted than the budget.
+pub fn journals_tell_boards()
+    ensures opened { (o : OpeningParts) → IsReplayed (opened o) }
+    ensures numbers { (o : OpeningParts) (journal : List Entry) → 1 ≤ o.workers → AreAllowed o (start o) journal
+        → (number : ℕ) → times_in (replay o journal) number ≤ 1 }
+    ensures budget { (o : OpeningParts) (journal : List Entry) (budget : ℕ) → 1 ≤ o.workers → AreAllowed o (start o) journal
+        → o.budget ≡ Some budget → (replay o journal).spent + sum_by grant_of (replay o journal).held ≤ budget }
+{}
+
+/// Each event leaves the journal as it was, or appends to it. What is found is never taken away, and the opening stays.
+pub fn events_only_append()
+    ensures journal { (b after : BoardParts) (event : Event) → EventStep b event after
+        → (more : List Entry) × (after.journal ≡ b.journal ++ more) }
+    ensures found { (b after : BoardParts) (event : Event) → EventStep b event after
+        → (more : List (List ℕ)) × (after.found ≡ b.found ++ more) }
+    ensures opening { (b after : BoardParts) (event : Event) → EventStep b event after → after.opening ≡ b.opening }
+{}
+
+/// After a recall nobody holds a job, each lane has at its end what its worker held, and the journal has a Back for each
+/// held job, in the order of the workers.
+pub fn a_recall_gives_all_back()
+    ensures held { (b : BoardParts) → HasShape b → (worker : ℕ) → held_at (after_recall b).held worker ≡ None }
+    ensures lanes { (b : BoardParts) → HasShape b → (worker : ℕ)
+        → lane_at (after_recall b).lanes worker ≡ lane_at b.lanes worker ++ held_jobs (held_at b.held worker) }
+    ensures journal { (b : BoardParts) → HasShape b → (after_recall b).journal ≡ b.journal ++ backs 0 b.held }
+{}
+
+/// A number that is claimed has no place exactly where it stands in no lane.
+pub fn stale_numbers_stand_nowhere()
+    ensures { (b : BoardParts) (number : ℕ) → length b.lanes ≡ b.opening.workers
+        → (claim_place b number ≡ None) ↔ ((lane : ℕ) → Contains (numbers_of (lane_at b.lanes lane)) number → ⊥) }
+{}
+
+/// A worker looks at its own lane and then upwards and round; a rest is halved with the odd node behind; a grant is no
+/// more than 4,096 and what the budget leaves; and a journal of six entries replays to two new jobs.
+pub fn boards_by_example()
+    ensures ways { map (λ worker. round worker 3) (0 ∷ 1 ∷ 2 ∷ [])
+        ≡ (0 ∷ 1 ∷ 2 ∷ []) ∷ (1 ∷ 2 ∷ 0 ∷ []) ∷ (2 ∷ 0 ∷ 1 ∷ []) ∷ [] }
+    ensures rests { map (λ rest. map length (halves rest)) ([] ∷ ([] ∷ []) ∷ ([] ∷ [] ∷ []) ∷ ([] ∷ [] ∷ [] ∷ []) ∷ ([] ∷ [] ∷ [] ∷ [] ∷ [] ∷ []) ∷ [])
+        ≡ [] ∷ (1 ∷ []) ∷ (1 ∷ 1 ∷ []) ∷ (1 ∷ 2 ∷ []) ∷ (2 ∷ 3 ∷ []) ∷ [] }
+    ensures grants { map (granted (Some 5000)) (0 ∷ 904 ∷ 905 ∷ 4999 ∷ 5000 ∷ []) ≡ 4096 ∷ 4096 ∷ 4095 ∷ 1 ∷ 0 ∷ [] }
+    ensures without_budget { granted None 5000 ≡ 4096 }
+    ensures own { next_answer (opened (two_jobs None)) 0 ≡ taken.Job (record { number = 1; grant = 4096; nodes = (0 ∷ []) ∷ [] }) }
+    ensures stolen { next_answer (opened (two_jobs (Some 7))) 1 ≡ taken.Job (record { number = 0; grant = 7; nodes = (1 ∷ []) ∷ [] }) }
+    ensures refused { map (λ budget. next_answer (opened (two_jobs budget)) 3) (None ∷ Some 0 ∷ []) ≡ taken.Stranger ∷ taken.Stranger ∷ [] }
+    ensures spent { next_answer (opened (two_jobs (Some 0))) 0 ≡ taken.Spent }
+    ensures claims { claim_answer (opened (two_jobs None)) 2 0 ≡ claimed.Job (record { number = 0; grant = 4096; nodes = (1 ∷ []) ∷ [] }) }
+    ensures stale { claim_answer (opened (two_jobs None)) 2 2 ≡ claimed.Stale }
+    ensures replayed { replay (two_jobs None) script
+        ≡ record { lanes = [] ∷ [] ∷ (2 ∷ 3 ∷ []) ∷ []; held = None ∷ None ∷ None ∷ []; next = 4; spent = 17 } }
+{}
+
+/// At first worker 0 may take a job from lane 0, with its grant. None may be taken with another grant, from another
+/// lane, or by a worker that there is not; and what nobody holds may not be handed in or go back.
+pub fn entries_are_allowed_where_they_stand()
+    ensures taken { IsAllowed (two_jobs None) (start (two_jobs None)) (Take 0 0 1 4096) }
+    ensures grant { IsAllowed (two_jobs None) (start (two_jobs None)) (Take 0 0 1 4095) → ⊥ }
+    ensures lane { IsAllowed (two_jobs None) (start (two_jobs None)) (Take 0 1 1 4096) → ⊥ }
+    ensures worker { IsAllowed (two_jobs None) (start (two_jobs None)) (Take 3 0 1 4096) → ⊥ }
+    ensures hand { IsAllowed (two_jobs None) (start (two_jobs None)) (Hand 0 1 0 0 0) → ⊥ }
+    ensures back { IsAllowed (two_jobs None) (start (two_jobs None)) (Back 0 1) → ⊥ }
+{}

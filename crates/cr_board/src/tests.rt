@@ -1,0 +1,2 @@
+mod hunter;
+mod scripts;
