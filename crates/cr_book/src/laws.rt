@@ -41,7 +41,7 @@ pub fn what_is_sorted_is_the_book()
 pub fn what_was_found_whole_is_the_book()
     ensures { (p : ProblemParts) (before nodes found sorted : List (List ℕ)) → All (Kept p) found
         → ((calling : List ℕ) → Kept p calling →
-            times_found found calling ≡ times_found before calling + nodes_above p nodes calling)
+        times_found found calling ≡ times_found before calling + nodes_above p nodes calling)
         → ((calling : List ℕ) → Kept p calling → times_found before calling + nodes_above p nodes calling ≤ 1)
         → IsPermutation found sorted → IsSorted (book_order p) sorted → IsBook p before nodes sorted }
 {

@@ -25,7 +25,7 @@ module _ (rows : List (List ℕ)) (number place : ℕ) (old new : StackParts) (r
     differ = fits.differ;
     room = ap (λ (s : StackParts). s.room) pushes.2 ∙ fits.room;
     first = ap (λ (s : StackParts). s.rows) pushes.2 ∙ ap (λ xs. xs ++ row ∷ []) fits.first
-      ∙ ap (λ last. take place rows ++ last ∷ []) is ∙ sym (take_more rows place [] (omega (arith, within, fits.all)));
+        ∙ ap (λ last. take place rows ++ last ∷ []) is ∙ sym (take_more rows place [] (omega (arith, within, fits.all)));
   }
   fitted_more (Again at) pushes =
       let stands : StandsAt old.rows row at = pushes.0 in

@@ -40,10 +40,11 @@ goes_on p onward found open_nodes work all left so_far done same_problem same_jo
     let here : IsDone p open_nodes work.found work.rest work.used =
     subst (λ q. IsDone q open_nodes work.found work.rest work.used) same_problem (subst (λ job. IsDone work.problem job work.found work.rest work.used) same_job done) in
     let next : IsDone p ([] ∷ []) (found ++ work.found) work.rest (so_far.used + work.used) =
-    onward ([] ∷ []) found open_nodes work.found work.rest so_far.used work.used so_far.done here in
-    (so_far.used + work.used,
-     subst (λ xs. IsDone p ([] ∷ []) xs left (so_far.used + work.used)) (sym same_all)
-     (subst (λ xs. IsDone p ([] ∷ []) (found ++ work.found) xs (so_far.used + work.used)) (sym same_left) next))
+    onward ([] ∷ []) found open_nodes work.found work.rest so_far.used work.used so_far.done here in (
+      so_far.used + work.used,
+      subst (λ xs. IsDone p ([] ∷ []) xs left (so_far.used + work.used)) (sym same_all)
+          (subst (λ xs. IsDone p ([] ∷ []) (found ++ work.found) xs (so_far.used + work.used)) (sym same_left) next),
+    )
 
 -- a list of no items, and of some, by the test of their number
 pub no_items : (xs : List (List ℕ)) (number : ℕ) → number ≡ length xs → true ≡ (number == 0) → xs ≡ []

@@ -38,8 +38,18 @@ const ALL_SPLICED: &str = "24 ApApAp\n24 ApApCp\n24 ApCpCp\n24 CpCpCp\ntouches 4
 
 // Which case it is, how its file begins and ends, and the book.
 const BOOKS: [(&str, &str, &str, &str); 21] = [
-    ("plain leads", MINIMUS_LEADS, "[query]\nmin = 1\nmax = 24\n", "24 ppp\ntouches 1\n"),
-    ("plain leads, above max", MINIMUS_LEADS, "[query]\nmin = 1\nmax = 23\n", "touches 0\n"),
+    (
+        "plain leads",
+        MINIMUS_LEADS,
+        "[query]\nmin = 1\nmax = 24\n",
+        "24 ppp\ntouches 1\n",
+    ),
+    (
+        "plain leads, above max",
+        MINIMUS_LEADS,
+        "[query]\nmin = 1\nmax = 23\n",
+        "touches 0\n",
+    ),
     (
         "a bob lead that comes round",
         MINIMUS_LEADS,
@@ -52,7 +62,12 @@ const BOOKS: [(&str, &str, &str, &str); 21] = [
         "[[call]]\nmark = \"s\"\nnotation = \"1234\"\n[query]\nmin = 1\nmax = 24\n",
         "24 ppp\ntouches 1\n",
     ),
-    ("bobs", DOUBLES_LEADS, "[query]\nmin = 1\nmax = 120\n", ALL_DOUBLES),
+    (
+        "bobs",
+        DOUBLES_LEADS,
+        "[query]\nmin = 1\nmax = 120\n",
+        ALL_DOUBLES,
+    ),
     (
         "two parts",
         DOUBLES_LEADS,
@@ -83,8 +98,18 @@ const BOOKS: [(&str, &str, &str, &str); 21] = [
         "[query]\nmin = 1\nmax = 120\n[[count]]\nmark = \"b\"\nmin = 2\nmax = 2\n",
         "20 bb\ntouches 1\n",
     ),
-    ("one length", DOUBLES_LEADS, "[query]\nmin = 60\nmax = 60\n", "60 pbpbpb\ntouches 1\n"),
-    ("lengths of no touch", DOUBLES_LEADS, "[query]\nmin = 61\nmax = 99\n", "touches 0\n"),
+    (
+        "one length",
+        DOUBLES_LEADS,
+        "[query]\nmin = 60\nmax = 60\n",
+        "60 pbpbpb\ntouches 1\n",
+    ),
+    (
+        "lengths of no touch",
+        DOUBLES_LEADS,
+        "[query]\nmin = 61\nmax = 99\n",
+        "touches 0\n",
+    ),
     (
         "a row that the least rotation lacks",
         DOUBLES_LEADS,
@@ -104,10 +129,30 @@ const BOOKS: [(&str, &str, &str, &str); 21] = [
         "[[call]]\nmark = \"e\"\nnotation = \"14\"\nover = 5\n[query]\nmin = 1\nmax = 24\n",
         "8 ee\n24 ppp\ntouches 2\n",
     ),
-    ("no change of method", SPLICED, "[com]\nmax = 0\n", "24 ApApAp\n24 CpCpCp\ntouches 2\n"),
-    ("at most one change of method", SPLICED, "[com]\nmax = 1\n", ALL_SPLICED),
-    ("two changes of method", SPLICED, "[com]\nmin = 2\n", "24 ApCpAp\n24 CpApCp\ntouches 2\n"),
-    ("three changes of method", SPLICED, "[com]\nmin = 3\n", "touches 0\n"),
+    (
+        "no change of method",
+        SPLICED,
+        "[com]\nmax = 0\n",
+        "24 ApApAp\n24 CpCpCp\ntouches 2\n",
+    ),
+    (
+        "at most one change of method",
+        SPLICED,
+        "[com]\nmax = 1\n",
+        ALL_SPLICED,
+    ),
+    (
+        "two changes of method",
+        SPLICED,
+        "[com]\nmin = 2\n",
+        "24 ApCpAp\n24 CpApCp\ntouches 2\n",
+    ),
+    (
+        "three changes of method",
+        SPLICED,
+        "[com]\nmin = 3\n",
+        "touches 0\n",
+    ),
     (
         "two crosses",
         "stage = 4\n[[method]]\nletter = \"A\"\nnotation = \"xx\"\n",
