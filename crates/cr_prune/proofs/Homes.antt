@@ -1,5 +1,5 @@
 -- Where rounds comes in rows that differ.
-use Rattle.std.proofs.Common.{◌≡◌, ◌≢◌, ℕ, zero, suc, ◌+◌, ◌-◌, ◌<◌, ◌≤◌, Bool, true, false, ◌&&◌, ◌||◌, nat_lt, nat_eq, List, [], ◌∷◌, length, get_or, take, drop, Contains, refl, sym, ap, ap₂, ◌∙◌, subst, inl, inr, arith, lt-ltb, length-drop}
+use Rattle.std.proofs.Common.{◌≡◌, ◌≢◌, ℕ, suc, ◌+◌, ◌-◌, ◌<◌, Bool, true, false, ◌&&◌, ◌||◌, nat_lt, nat_eq, List, [], ◌∷◌, length, get_or, take, drop, Contains, refl, sym, ap, ap₂, ◌∙◌, subst, inl, inr, arith, lt-ltb, length-drop}
 use Rattle.std.specs.Cmp.Lexicographic.{pointwise}
 use Rattle.std.specs.List.{list_any}
 use Rattle.std.proofs.lemmas.Bool.{cases_eq, cases_lt, false_from_ne_true, le-ltb}
@@ -8,7 +8,7 @@ use Rattle.std.proofs.lemmas.List.Folds.{list_any_at}
 use Rattle.std.proofs.lemmas.Slice.Eq.{bytes_eq-Decides}
 use Rattle.cr_row.specs.Rows.{rounds}
 use Rattle.cr_model.specs.Problems.{ProblemParts}
-use Rattle.cr_model.specs.Callings.{rows_of, length_of, AllDiffer}
+use Rattle.cr_model.specs.Callings.{rows_of, AllDiffer}
 use Rattle.cr_model.specs.Dead.{has_rounds, is_home, parts_of}
 use Rattle.cr_rowset.specs.Pushing.{StandsAt}
 use Rattle.cr_prune.specs.Rung.{AreRows}

@@ -1,10 +1,10 @@
 -- Rows of nodes with a lead more, and with one less.
-use Rattle.std.proofs.Common.{◌≡◌, ℕ, ◌+◌, ◌-◌, ◌<◌, ◌≤◌, true, false, not, nat_eq, List, [], ◌∷◌, ◌++◌, length, get_or, take, drop, refl, sym, ap, ◌∙◌, subst, arith, inl, inr, append-nil, length-append}
+use Rattle.std.proofs.Common.{◌≡◌, ℕ, ◌+◌, ◌-◌, ◌<◌, ◌≤◌, true, false, not, nat_eq, List, [], ◌∷◌, ◌++◌, length, take, drop, sym, ap, ◌∙◌, subst, arith, inl, inr, append-nil, length-append}
 use Rattle.std.proofs.lemmas.Bool.{false_from_ne_true}
 use Rattle.std.proofs.lemmas.Bool.Decides.{eqb_tells}
 use Rattle.cr_model.specs.Decided.{rows_differ}
 use Rattle.cr_model.proofs.Deciding.{rows_differ_decided}
-use Rattle.std.proofs.lemmas.List.{take-append-le, take-append-drop, take-take, take_all, length-take-le, get_or-take, get_or_append_left}
+use Rattle.std.proofs.lemmas.List.{take-append-le, take-append-drop, take-take, take_all, length-take-le, get_or-take}
 use Rattle.std.proofs.Math.Seq.{take-append_seam}
 use Rattle.cr_row.specs.Rows.{Places}
 use Rattle.cr_model.specs.Problems.{ProblemParts}

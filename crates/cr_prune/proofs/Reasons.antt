@@ -1,5 +1,5 @@
 -- First reasons, and those that need no row.
-use Rattle.std.proofs.Common.{◌≡◌, ◌≢◌, ◌⊎◌, ℕ, Bool, true, false, cond, ◌&&◌, ◌||◌, List, [], ◌∷◌, ◌++◌, find, Option, Some, None, refl, sym, ap, ap₂, ◌∙◌, inl, inr}
+use Rattle.std.proofs.Common.{◌≡◌, ◌⊎◌, ℕ, Bool, true, false, cond, ◌&&◌, ◌||◌, List, [], ◌∷◌, ◌++◌, find, Option, Some, None, refl, sym, ap, ap₂, ◌∙◌, inl, inr}
 use Rattle.std.specs.Prelude.{IfSome}
 use Rattle.std.specs.Bool.{Decides}
 use Rattle.std.proofs.lemmas.Bool.{false_from_ne_true, false≢true}
@@ -10,7 +10,7 @@ use Rattle.cr_model.specs.declared.reason.Reason.{Reason}
 use Rattle.cr_model.specs.declared.reason.Reason.TheVariants as reason
 use Rattle.cr_model.specs.Problems.{ProblemParts}
 use Rattle.cr_model.specs.Sound.{IsSound}
-use Rattle.cr_model.specs.Dead.{HasNoneBelow, is_long, is_self_false, is_far, is_too_many, is_too_few, turns_back, turn_free, is_turned_back, holds, reasons, dead}
+use Rattle.cr_model.specs.Dead.{HasNoneBelow, is_too_many, is_too_few, turns_back, turn_free, is_turned_back, holds, dead}
 use Rattle.cr_query.specs.Meters.{is_hopeless_by_leads}
 use Rattle.cr_prune.specs.Pruners.{dies_unrung}
 

@@ -1,11 +1,11 @@
 -- A lead on its way onto a stack of rows.
-use Rattle.std.proofs.Common.{◌≡◌, ◌≢◌, ℕ, suc, ◌+◌, ◌<◌, ◌≤◌, List, [], ◌∷◌, ◌++◌, length, get_or, take, drop, refl, sym, ap, ◌∙◌, subst, arith, append_assoc, append-nil, length-append}
+use Rattle.std.proofs.Common.{◌≡◌, ℕ, suc, ◌+◌, ◌≤◌, List, [], ◌∷◌, ◌++◌, length, get_or, take, refl, sym, ap, ◌∙◌, subst, arith, append_assoc, length-append}
 use Rattle.std.proofs.lemmas.List.{get_or_append_left, get_or_at, take-append-le}
 use Rattle.cr_row.specs.Rows.{Places, after}
 use Rattle.cr_model.specs.Callings.{rows_from, last_of, AllDiffer}
 use Rattle.cr_rowset.specs.Stacks.{StackParts}
 use Rattle.cr_rowset.specs.Pushing.{StandsAt, Pushes}
-use Rattle.cr_rowset.specs.declared.pushed.Pushed.TheVariants.{Fresh, Again, Full}
+use Rattle.cr_rowset.specs.declared.pushed.Pushed.TheVariants.{Fresh}
 use Rattle.cr_prune.specs.Rung.{IsRinging}
 
 -- as many rows as changes

@@ -1,10 +1,10 @@
 -- What a walk keeps, a step on and a step back.
-use Rattle.std.proofs.Common.{◌≡◌, ℕ, zero, suc, ◌+◌, ◌-◌, ◌<◌, ◌≤◌, List, [], ◌∷◌, ◌++◌, length, get_or, take, drop, All, refl, sym, ap, ap₂, ◌∙◌, subst, arith, length-append, take-append-drop}
-use Rattle.std.proofs.lemmas.List.{length-take-le, take_more, take_all}
+use Rattle.std.proofs.Common.{◌≡◌, ℕ, zero, suc, ◌+◌, ◌-◌, ◌<◌, ◌≤◌, List, [], ◌∷◌, ◌++◌, length, get_or, take, sym, ap, ap₂, ◌∙◌, arith}
+use Rattle.std.proofs.lemmas.List.{take_more, take_all}
 use Rattle.std.proofs.lemmas.List.Elements.{All-push, All-take, All-nil}
 use Rattle.cr_row.specs.Rows.{Places, rounds}
 use Rattle.cr_model.specs.Problems.{ProblemParts}
-use Rattle.cr_model.specs.Callings.{changes_of, rows_of, length_of, head_of, HasSteps}
+use Rattle.cr_model.specs.Callings.{rows_of, length_of, head_of}
 use Rattle.cr_model.specs.Queries.{part_cap}
 use Rattle.cr_model.specs.Sizes.{child}
 use Rattle.cr_model.specs.Sound.{IsSound}
@@ -16,7 +16,7 @@ use Rattle.cr_prune.specs.Ends.{AreEnds, end_of}
 use Rattle.cr_prune.specs.Rung.{AreRows}
 use Rattle.cr_prune.specs.Walks.{IsWalk, parent, room_of}
 use Rattle.cr_prune.proofs.Leads.{child_length, first_fewer, rows_counted, all_fresh}
-use Rattle.cr_prune.proofs.Limits.{part_few, lead_few}
+use Rattle.cr_prune.proofs.Limits.{lead_few}
 
 -- the end of a longer node
 pub end_is : (p : ProblemParts) (node : List ℕ) (head : List ℕ) (rung : ℕ) → head ≡ head_of p node → rung ≡ length_of p node → record { head = head; rung = rung } ≡ end_of p node

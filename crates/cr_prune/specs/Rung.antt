@@ -11,7 +11,8 @@ pub record AreRows (p : ProblemParts) (node : List ℕ) (rows : List (List ℕ))
   pub are : rows ≡ rows_of p (take fresh node)
   pub again : fresh < length node → AllDiffer (rows_of p (take (fresh + 1) node)) → ⊥
 
--- a lead on its way onto a stack: what stands there now and what is left of it are what stood there and the whole lead
+-- a lead on its way onto a stack: what stands there now and what is left of the lead are what stood there before and
+-- the whole lead
 pub record IsRinging (old now : StackParts) (from row : List ℕ) (changes rest : List Places) : Type 0 where
   pub all : now.rows ++ rows_from row rest ≡ old.rows ++ rows_from from changes
   pub last : last_of row (rows_from row rest) ≡ last_of from (rows_from from changes)

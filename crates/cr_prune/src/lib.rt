@@ -11,3 +11,6 @@ mod walk;
 
 pub use pruner::Pruner;
 pub use walk::Walk;
+
+#[cfg(test)]
+mod tests;

@@ -74,6 +74,7 @@ impl<'a> Pruner<'a> {
             → IfSome result (λ _. HasNoneBelow self.now.problem walk.now.node) }
     {
         nothing_is_kept_below_a_dead_node();
+        // A problem keeps all of its checks.
         let _ = self.problem.stage();
         match self.dead_by_rows(walk) {
             Some(reason) => Some(reason),
@@ -144,6 +145,7 @@ impl<'a> Pruner<'a> {
         requires { step < length self.now.problem.leads }
         ensures { result ≡ not (rows_differ (rows_of self.now.problem (step ∷ []))) }
     {
+        // There are no more of them than facts.
         let _ = self.problem.leads();
         self.facts.false_leads[usize::from(step)]
     }

@@ -112,7 +112,7 @@ impl<'a> Walk<'a> {
         self.steps.pop();
     }
 
-    /// The node.
+    /// The steps of the node.
     pub fn steps(&self) -> &[u8]
         ensures is { result.now ≡ self.now.node }
         ensures few { length self.now.node ≤ 1024 }
@@ -136,6 +136,7 @@ impl<'a> Walk<'a> {
         ensures within { result ≤ room_of self.now.problem }
         ensures few { result ≤ 12128 }
     {
+        // A problem keeps all of its checks, so that the room is small.
         let _ = self.problem.stage();
         self.ends.last().rung
     }
@@ -164,21 +165,21 @@ impl<'a> Walk<'a> {
     }
 
     /// Whether the node turns back.
-    pub fn turns_back(&self) -> bool
+    pub(crate) fn turns_back(&self) -> bool
         ensures { IsTrue result ↔ TurnsBack self.now.node }
     {
         self.steps.turns_back()
     }
 
     /// Whether the child by this step turns back.
-    pub fn turns_back_with(&self, step: u8) -> bool
+    pub(crate) fn turns_back_with(&self, step: u8) -> bool
         ensures { IsTrue result ↔ TurnsBack (child self.now.node step) }
     {
         self.steps.turns_back_with(step)
     }
 
     /// Whether the node has too many or too few of what the query counts.
-    pub fn hopeless(&self) -> Option<Hopeless>
+    pub(crate) fn hopeless(&self) -> Option<Hopeless>
         ensures many { (result ≡ Some TooMany) ↔ (is_too_many self.now.problem self.now.node ≡ true) }
         ensures few { (result ≡ Some TooFew)
             ↔ ((is_too_many self.now.problem self.now.node ≡ false) × (is_too_few self.now.problem self.now.node ≡ true)) }
@@ -187,7 +188,7 @@ impl<'a> Walk<'a> {
     }
 
     /// Whether the child by this step has so by its leads alone.
-    pub fn is_hopeless_with(&self, step: u8) -> bool
+    pub(crate) fn is_hopeless_with(&self, step: u8) -> bool
         requires { step < length self.now.problem.leads }
         ensures { result ≡ is_hopeless_by_leads self.now.problem (child self.now.node step) }
     {
@@ -196,7 +197,7 @@ impl<'a> Walk<'a> {
 
     /// Whether rounds comes too early in a node whose rows differ: before its last row, or there where there are
     /// several parts.
-    pub fn is_home(&self, several: bool) -> bool
+    pub(crate) fn is_home(&self, several: bool) -> bool
         requires differ { rows_differ (rows_of self.now.problem self.now.node) ≡ true }
         requires several { several ≡ nat_lt 1 (parts_of self.now.problem) }
         ensures { result ≡ is_home self.now.problem self.now.node }

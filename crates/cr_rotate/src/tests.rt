@@ -60,6 +60,17 @@ fn a_period_grows_and_shrinks(rt: HostRuntime) -> Result<(), Fail> {
 }
 
 #[test]
+fn a_period_with_a_step_more(rt: HostRuntime) -> Result<(), Fail> {
+    for (name, word, turns, _) in WORDS {
+        if let Some((last, front)) = word.split_last() {
+            let period = grown(rt.alloc(), front, 0)?;
+            assert_eq!(rt; period.turns_back_with(*last), turns, "{name}");
+        }
+    }
+    Ok(())
+}
+
+#[test]
 fn a_period_has_room_for_1024_steps(rt: HostRuntime) -> Result<(), Fail> {
     let period = grown(rt.alloc(), &[0; 1024], 1024)?;
     assert!(rt; period.is_least());

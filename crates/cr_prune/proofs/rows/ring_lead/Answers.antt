@@ -1,7 +1,6 @@
-use Rattle.std.proofs.Common.{◌≡◌, ℕ, ◌+◌, ◌<◌, ◌∙◌, List, ◌∷◌, ◌++◌, length, get_or, take, drop, refl, sym, ap, subst, arith}
+use Rattle.std.proofs.Common.{◌≡◌, ℕ, ◌+◌, ◌<◌, ◌∙◌, List, ◌∷◌, length, get_or, drop, sym, ap, subst, arith}
 use Rattle.std.proofs.lemmas.List.{drop_more}
 use Rattle.cr_row.specs.Rows.{Places}
-use Rattle.cr_rowset.specs.Stacks.{StackParts}
 use Rattle.cr_prune.specs.Rung.{IsRinging}
 use Rattle.cr_prune.proofs.Ringing.{one_more, stood, has_room, cut_back}
 use Rattle.cr_prune.proofs.rows.ring_lead.Goals as goal
@@ -17,8 +16,7 @@ returns-in-Again-clause-none c nothing =
     let changes = c.args.changes.now in
     let index = c.loop-change.change-index in
     let within : index < length changes = omega (arith, c.loop-change-test.true) in
-    let ringing = subst (IsRinging old c.loop-change.stack c.args.from c.loop-change.row changes) (left changes index c.change-item.result within c.change-item.is) c.loop-change.invariant.ringing in
-    (
+    let ringing = subst (IsRinging old c.loop-change.stack c.args.from c.loop-change.row changes) (left changes index c.change-item.result within c.change-item.is) c.loop-change.invariant.ringing in (
       c.cut_to.ensures ∙ cut_back old c.loop-change.stack c.push.new.self _ _ _ _ _ c.len-before.result ringing c.in-Again.ensures.1 c.len-before.ensures.is,
       stood old c.loop-change.stack c.args.from c.loop-change.row c.then-row.result changes (drop (index + 1) changes) c.change-item.result c.in-Again.field-0
           ringing c.then-row.ensures.is c.in-Again.ensures.0,

@@ -1,4 +1,4 @@
-use Rattle.std.proofs.Common.{◌≡◌, ◌≤◌, ◌∙◌, nat_abs, nat_lt, ap, arith}
+use Rattle.std.proofs.Common.{◌∙◌, nat_abs, nat_lt, ap, arith}
 use Rattle.cr_model.specs.Problems.{QueryParts}
 use Rattle.cr_model.specs.Dead.{turn_free}
 use Rattle.cr_prune.proofs.Limits.{shortest_few}

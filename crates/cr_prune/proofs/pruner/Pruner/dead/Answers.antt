@@ -1,5 +1,4 @@
-use Rattle.std.proofs.Common.{◌≡◌, ◌∙◌, Some, None, find, ap, refl, subst, sym}
-use Rattle.cr_model.specs.Dead.{holds}
+use Rattle.std.proofs.Common.{Some, subst}
 use Rattle.cr_model.specs.Sound.{IsSound}
 use Rattle.cr_prune.specs.Pruners.{PrunerParts}
 use Rattle.cr_prune.proofs.Reasons.{dead_by_rows, dead_by_query, none_below}

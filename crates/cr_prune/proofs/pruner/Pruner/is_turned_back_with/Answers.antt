@@ -1,4 +1,4 @@
-use Rattle.std.proofs.Common.{◌≡◌, ◌∙◌, ap, refl}
+use Rattle.std.proofs.Common.{◌∙◌, ap}
 use Rattle.cr_model.specs.Dead.{turn_free}
 use Rattle.cr_model.specs.Sizes.{child}
 use Rattle.cr_prune.specs.Pruners.{PrunerParts}

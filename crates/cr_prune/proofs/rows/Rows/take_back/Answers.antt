@@ -1,6 +1,6 @@
-use Rattle.std.proofs.Common.{ap, sym, ◌∙◌, ◌-◌, refl, subst, take, length}
+use Rattle.std.proofs.Common.{ap, ◌∙◌, ◌-◌}
 use Rattle.cr_rowset.specs.Stacks.{StackParts}
-use Rattle.cr_prune.proofs.Leads.{rows_less, rows_stay}
+use Rattle.cr_prune.proofs.Leads.{rows_less}
 use Rattle.cr_prune.proofs.rows.Rows.take_back.Goals as goal
 
 pub returns-then-self-leads-clause-are : goal.returns-then-self-leads-clause-are

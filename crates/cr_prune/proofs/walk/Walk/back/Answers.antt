@@ -1,8 +1,7 @@
-use Rattle.std.proofs.Common.{◌≡◌, ℕ, ◌+◌, ◌-◌, ◌<◌, ◌≤◌, ◌∙◌, List, length, take, refl, sym, ap, subst, arith}
+use Rattle.std.proofs.Common.{◌≡◌, ℕ, ◌-◌, ◌<◌, ◌∙◌, List, length, take, sym, ap, subst}
 use Rattle.cr_model.specs.Callings.{length_of, head_of}
 use Rattle.cr_query.specs.Meters.{MeterParts}
 use Rattle.cr_prune.specs.declared.ends.LeadEnd.{LeadEnd}
-use Rattle.cr_prune.specs.Ends.{AreEnds, end_of}
 use Rattle.cr_prune.specs.Rung.{AreRows}
 use Rattle.cr_prune.specs.Walks.{WalkParts, IsWalk, parent}
 use Rattle.cr_prune.proofs.Walking.{returned, left_kept}

@@ -1,8 +1,7 @@
-use Rattle.std.proofs.Common.{◌≡◌, ℕ, ◌+◌, ◌<◌, ◌≤◌, ◌∙◌, List, length, refl, sym, ap, subst, arith}
-use Rattle.std.specs.List.{All}
+use Rattle.std.proofs.Common.{◌≡◌, ℕ, ◌+◌, ◌<◌, ◌≤◌, ◌∙◌, List, length, sym, ap, subst}
 use Rattle.std.proofs.lemmas.List.Elements.{All-weaker}
 use Rattle.cr_row.specs.Rows.{Places}
-use Rattle.cr_model.specs.Callings.{length_of, head_of}
+use Rattle.cr_model.specs.Callings.{length_of}
 use Rattle.cr_model.specs.Queries.{part_cap}
 use Rattle.cr_leads.specs.Tables.{TableParts, leads_counted}
 use Rattle.cr_prune.specs.declared.ends.LeadEnd.{LeadEnd}

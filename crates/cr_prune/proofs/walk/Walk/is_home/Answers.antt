@@ -1,4 +1,4 @@
-use Rattle.std.proofs.Common.{◌≡◌, ℕ, ◌<◌, ◌+◌, ◌∙◌, ◌||◌, Bool, List, length, nat_lt, sym, ap, subst, arith, refl}
+use Rattle.std.proofs.Common.{◌≡◌, ℕ, ◌∙◌, List, length, nat_lt, sym, ap, subst, arith, refl}
 use Rattle.std.specs.Prelude.{Contains}
 use Rattle.cr_row.specs.Rows.{rounds}
 use Rattle.cr_model.specs.Callings.{rows_of, length_of, AllDiffer}

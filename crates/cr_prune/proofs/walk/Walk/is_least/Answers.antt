@@ -1,4 +1,4 @@
-use Rattle.std.proofs.Common.{◌↔◌, subst, ap}
+use Rattle.std.proofs.Common.{◌↔◌, subst}
 use Rattle.std.specs.Prelude.{IsTrue}
 use Rattle.cr_model.specs.Turning.{IsLeastRotation}
 use Rattle.cr_prune.specs.Walks.{WalkParts}

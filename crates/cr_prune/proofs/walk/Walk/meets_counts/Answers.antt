@@ -1,4 +1,4 @@
-use Rattle.std.proofs.Common.{◌↔◌, ◌∙◌, subst, ap}
+use Rattle.std.proofs.Common.{◌↔◌, subst}
 use Rattle.std.specs.Prelude.{IsTrue}
 use Rattle.cr_model.specs.OneTurn.{touch_of}
 use Rattle.cr_query.specs.Meeting.{MeetsCounts, MeetsMethodCounts}

@@ -1,0 +1,265 @@
+ghost use Rattle.std.specs.Prelude.{◌≡◌, ◌<◌, ◌≤◌, length, IsTrue, IfOk};
+ghost use Rattle.cr_model.specs.Callings.{length_of};
+ghost use Rattle.cr_model.specs.Queries.{part_cap};
+ghost use Rattle.cr_leads.specs.Tables.{lead_table};
+
+use super::*;
+use cr_leads::LeadTable;
+use cr_model::Cell::Bell;
+use cr_model::{Cell, Com, Count, Lead, Pattern, Problem, Query, Reason, Step};
+use cr_reach::ReachTable;
+use cr_row::{Change, Stage};
+use std::alloc::Global;
+use std::test::*;
+
+mod plain;
+mod trees;
+
+// A problem in short: of each lead the method, the mark and the changes, by the places made or `x` for none. At
+// least one row fits the cells, where there are some.
+#[derive(Clone, Copy)]
+struct Draft {
+    stage: u8,
+    letters: &'static [u8],
+    leads: &'static [(u8, u8, &'static [u8])],
+    min: i64,
+    max: i64,
+    parts: i64,
+    counts: &'static [Count],
+    cells: &'static [Cell],
+    com: Option<Com>,
+}
+
+// Plain Bob Doubles: p and b.
+const DOUBLES: Draft = Draft {
+    stage: 5,
+    letters: b"A",
+    leads: &[
+        (0, b'p', b"5.1.5.1.5.1.5.1.5.125"),
+        (0, b'b', b"5.1.5.1.5.1.5.1.5.145"),
+    ],
+    min: 1,
+    max: 120,
+    parts: 1,
+    counts: &[],
+    cells: &[],
+    com: None,
+};
+
+const IN_TWO_PARTS: Draft = Draft {
+    parts: 2,
+    ..DOUBLES
+};
+
+const SHORT: Draft = Draft { max: 20, ..DOUBLES };
+
+const NO_BOBS: Draft = Draft {
+    counts: &[Count {
+        mark: b'b',
+        min: 0,
+        max: 0,
+    }],
+    ..DOUBLES
+};
+
+const FOUR_BOBS: Draft = Draft {
+    min: 60,
+    max: 60,
+    counts: &[Count {
+        mark: b'b',
+        min: 4,
+        max: 12_000,
+    }],
+    ..DOUBLES
+};
+
+const ASKED: Draft = Draft {
+    min: 60,
+    max: 60,
+    cells: &[Bell(1), Bell(4), Bell(2), Bell(5), Bell(3)],
+    ..DOUBLES
+};
+
+// Plain Bob Minimus with a call that makes all places: p and s.
+const MINIMUS: Draft = Draft {
+    stage: 4,
+    leads: &[
+        (0, b'p', b"x.14.x.14.x.14.x.12"),
+        (0, b's', b"x.14.x.14.x.14.x.1234"),
+    ],
+    max: 24,
+    ..DOUBLES
+};
+
+// Two methods of the same changes: Ap and Cp.
+const SPLICED: Draft = Draft {
+    letters: b"AC",
+    leads: &[
+        (0, b'p', b"x.14.x.14.x.14.x.12"),
+        (1, b'p', b"x.14.x.14.x.14.x.12"),
+    ],
+    min: 24,
+    ..MINIMUS
+};
+
+const CHANGING: Draft = Draft {
+    com: Some(Com {
+        min: 3,
+        max: 12_000,
+    }),
+    ..SPLICED
+};
+
+fn changes_of(alloc: Global, stage: Stage, text: &[u8]) -> Result<Vec<Change>, Fail> {
+    let mut changes = Vec::new(alloc);
+    for group in text.split(|byte| *byte == b'.') {
+        let mut places = Vec::new(alloc);
+        for byte in group {
+            if *byte != b'x' {
+                places.push(byte.saturating_sub(b'0'))?;
+            }
+        }
+        let change = Change::from_places(stage, &places).ok();
+        changes.push(change.ok_or("the places are those of a change")?)?;
+    }
+    Ok(changes)
+}
+
+fn query_of(alloc: Global, draft: &Draft) -> Result<Query, Fail> {
+    let mut patterns = Vec::new(alloc);
+    if !draft.cells.is_empty() {
+        patterns.push(Pattern {
+            cells: draft.cells.to_vec(alloc)?,
+            min: 1,
+            max: 12_000,
+        })?;
+    }
+    Ok(Query {
+        min: draft.min,
+        max: draft.max,
+        parts: draft.parts,
+        counts: draft.counts.to_vec(alloc)?,
+        method_counts: Vec::new(alloc),
+        patterns,
+        com: draft.com,
+    })
+}
+
+fn problem_of(alloc: Global, draft: &Draft) -> Result<Problem, Fail> {
+    let stage = Stage::new(draft.stage).ok_or("the stage is from 3 to 16")?;
+    let letters = draft.letters.to_vec(alloc)?;
+    let mut leads = Vec::new(alloc);
+    for (method, mark, text) in draft.leads {
+        let step = Step {
+            method: *method,
+            mark: *mark,
+        };
+        let changes = changes_of(alloc, stage, text)?;
+        leads.push(Lead { step, changes })?;
+    }
+    match Problem::new(stage, letters, leads, query_of(alloc, draft)?) {
+        Ok(problem) => Ok(problem),
+        Err(_) => Err(Fail::from("the parts are refused")),
+    }
+}
+
+fn lead_table(alloc: Global, problem: &Problem) -> Result<LeadTable, Fail>
+    ensures { IfOk result (λ leads. leads ≡ lead_table problem.now) }
+{
+    match LeadTable::new(alloc, problem) {
+        Ok(leads) => Ok(leads),
+        Err(_) => Err(Fail::from("there is memory")),
+    }
+}
+
+fn reach_table(alloc: Global, leads: &LeadTable) -> Result<ReachTable, Fail> {
+    match ReachTable::new(alloc, leads, 200_000) {
+        Ok(reach) => Ok(reach),
+        Err(_) => Err(Fail::from("there is memory")),
+    }
+}
+
+fn walk_of<'a>(alloc: Global, problem: &'a Problem, leads: &'a LeadTable) -> Result<Walk<'a>, Fail>
+    requires { leads.now ≡ lead_table problem.now }
+    ensures { IfOk result (λ walk. walk.problem ≡ problem.now) }
+{
+    match Walk::new(alloc, problem, leads) {
+        Ok(walk) => Ok(walk),
+        Err(_) => Err(Fail::from("there is memory")),
+    }
+}
+
+// Whether the walk may go on by this step.
+fn may_go(problem: &Problem, walk: &Walk, step: u8) -> bool
+    requires { walk.now.problem ≡ problem.now }
+    ensures step { IsTrue result → step < length walk.now.problem.leads }
+    ensures few { IsTrue result → length walk.now.node < 1024 }
+    ensures short { IsTrue result → length_of walk.now.problem walk.now.node ≤ part_cap walk.now.problem }
+{
+    usize::from(step) < problem.leads().len()
+        && walk.steps().len() < 1024
+        && walk.length() <= problem.part_cap()
+}
+
+// Goes on by these steps; a step back is 9.
+fn go_on(problem: &Problem, walk: &mut Walk, moves: &[u8]) -> Result<(), Fail>
+    requires { walk.old.problem ≡ problem.now }
+    ensures { walk.new.problem ≡ problem.now }
+{
+    for step in moves {
+        if *step == 9 && !walk.steps().is_empty() {
+            walk.back();
+        } else if may_go(problem, walk, *step) {
+            walk.go(*step);
+        } else {
+            return Err(Fail::from("the walk may not go there"));
+        }
+    }
+    Ok(())
+}
+
+// Why the node is dead to which these moves lead.
+fn dead_after(alloc: Global, draft: &Draft, moves: &[u8]) -> Result<Option<Reason>, Fail> {
+    let problem = problem_of(alloc, draft)?;
+    let leads = lead_table(alloc, &problem)?;
+    let reach = reach_table(alloc, &leads)?;
+    let mut walk = walk_of(alloc, &problem, &leads)?;
+    go_on(&problem, &mut walk, moves)?;
+    if walk.steps().is_empty() {
+        return Err(Fail::from("the node has steps"));
+    }
+    Ok(Pruner::new(&leads, &reach, &problem).dead(&walk))
+}
+
+const NODES: [(&str, Draft, &[u8], Option<Reason>); 15] = [
+    ("b", DOUBLES, &[1], None),
+    ("bb", DOUBLES, &[1, 1], None),
+    ("pppp", DOUBLES, &[0, 0, 0, 0], None),
+    ("13 times p", DOUBLES, &[0; 13], Some(Reason::Long)),
+    ("11 times p", DOUBLES, &[0; 11], Some(Reason::Again)),
+    ("s", MINIMUS, &[1], Some(Reason::SelfFalse)),
+    ("bbb", DOUBLES, &[1, 1, 1], Some(Reason::Again)),
+    ("bb in parts", IN_TWO_PARTS, &[1, 1], Some(Reason::Home)),
+    ("p of 20 changes", SHORT, &[0], Some(Reason::Far)),
+    ("b without bobs", NO_BOBS, &[1], Some(Reason::TooMany)),
+    ("ppp", FOUR_BOBS, &[0, 0, 0], Some(Reason::TooFew)),
+    ("bp", DOUBLES, &[1, 0], Some(Reason::TurnsBack)),
+    ("bp with a row", ASKED, &[1, 0], None),
+    ("Ap", CHANGING, &[0], Some(Reason::TooFew)),
+    (
+        "bbb, back, back, p",
+        DOUBLES,
+        &[1, 1, 1, 9, 9, 0],
+        Some(Reason::TurnsBack),
+    ),
+];
+
+#[test]
+fn nodes_and_why_they_are_dead(rt: HostRuntime) -> Result<(), Fail> {
+    for (name, draft, moves, wanted) in NODES {
+        if dead_after(rt.alloc(), &draft, moves)? != wanted {
+            return Err(Fail::from(name));
+        }
+    }
+    Ok(())
+}
