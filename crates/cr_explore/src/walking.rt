@@ -42,7 +42,7 @@ fn goes_live(walk: &mut Walk, pruner: &Pruner, step: u8) -> bool
         return false;
     }
     walk.go(step);
-    if pruner.dead(walk).is_none() {
+    if !pruner.dies_rung(walk) {
         return true;
     }
     walk.back();
