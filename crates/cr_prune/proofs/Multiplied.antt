@@ -1,8 +1,10 @@
 -- The rows of a node, so many times over.
-use Rattle.std.proofs.Common.{◌≡◌, ℕ, zero, suc, ◌+◌, ◌-◌, ◌<◌, ◌≤◌, Bool, ◌↔◌, true, List, [], ◌∷◌, ◌++◌, length, get_or, map, All, Contains, refl, sym, ap, ◌∙◌, subst, arith, append-nil, length-append}
+use Rattle.std.proofs.Common.{◌≡◌, ℕ, zero, suc, ◌+◌, ◌-◌, ◌*◌, ◌/◌, ◌<◌, ◌≤◌, Bool, ◌↔◌, true, List, [], ◌∷◌, ◌++◌, length, get_or, map, All, Contains, refl, sym, ap, ◌∙◌, subst, arith, inl, inr, append-nil, length-append}
 use Rattle.std.specs.Prelude.{IsTrue}
+use Rattle.std.proofs.lemmas.Bool.{cases_lt}
 use Rattle.std.proofs.lemmas.Bool.Decides.{same_from_decides}
 use Rattle.std.proofs.lemmas.List.{get_or-map, length-map, get_or_append_left, get_or-append-add, get_or_default}
+use Rattle.std.proofs.lemmas.List.Elements.{All-append}
 use Rattle.cr_row.specs.Rows.{rounds, product}
 use Rattle.cr_row.proofs.ChangeLaws.{IsRow-changed, length-changed, changed-product}
 use Rattle.cr_row.proofs.RowLaws.{IsRow-rounds, length-rounds, product-rounds, rounds-product, product_assoc, product_left, inverse_right}
@@ -12,14 +14,15 @@ use Rattle.cr_model.specs.Dead.{parts_of}
 use Rattle.cr_model.specs.Decided.{rows_differ}
 use Rattle.cr_model.specs.OneTurn.{touch_of}
 use Rattle.cr_model.specs.Queries.{repeated}
-use Rattle.cr_model.proofs.Bells.{RowLaws, IsRowOf, rows_are_rows, last_is_row}
+use Rattle.cr_model.proofs.Bells.{RowLaws, IsRowOf, rows_are_rows, last_is_row, undone}
 use Rattle.cr_model.proofs.Deciding.{rows_differ_decided}
 use Rattle.cr_model.proofs.NewRows.{differ_joined}
-use Rattle.cr_model.proofs.Ringing.{rows_from-append, rows_on, changes-append, rung_from}
+use Rattle.cr_model.proofs.Ringing.{rows_from-append, rows_on, head_on, changes-append, rung_from}
+use Rattle.cr_model.proofs.Turned.{head_joined}
 use Rattle.cr_prune.specs.Parts.{AreNew}
 use Rattle.cr_prune.specs.Rung.{AreRows}
 use Rattle.cr_prune.proofs.Homes.{whole}
-use Rattle.cr_prune.proofs.Past.{all_front, repeated_joined, repeated_on}
+use Rattle.cr_prune.proofs.Past.{all_front, all_behind, repeated_joined, repeated_on}
 
 -- the laws of rows and changes
 row_laws : RowLaws
@@ -97,16 +100,98 @@ module _ (p : ProblemParts) (node : List ℕ) where
     λ all. told.1 (new_from_differ (rows_of p node) (further number) (subst AllDiffer (parts_are number) all)),
   )
 
+  -- the head of so many parts, and the rows of the part after them
+  abbrev pub head_after : ℕ → List ℕ
+  head_after number = head_of p (repeated number node)
+
+  abbrev pub part_after : ℕ → List (List ℕ)
+  part_after number = rows_from (head_after number) (changes_of_all p node)
+
+  part_is : (number : ℕ) → part_after number ≡ map (product (head_after number)) (rows_of p node)
+  part_is number = rung_from row_laws.after_product row_laws.rounds_right p.stage (head_after number) (changes_of_all p node) (last_is_row row_laws p.stage (changes_of_all p (repeated number node))).long
+
+  -- its row at a place
+  part_at : (number place : ℕ) → place < length (rows_of p node) → get_or (part_after number) place [] ≡ product (head_after number) (get_or (rows_of p node) place [])
+  part_at number place inside = ap (λ rows. get_or rows place []) (part_is number) ∙ get_or-map (product (head_after number)) (rows_of p node) place [] [] inside
+
+  part_long : (number : ℕ) → length (part_after number) ≡ length (rows_of p node)
+  part_long number = ap length (part_is number) ∙ length-map (rows_of p node) (product (head_after number))
+
+  -- one part more
+  further_part : (number : ℕ) → further (number + 1) ≡ further number ++ part_after (number + 1)
+  further_part number =
+      let turned : 1 + number ≡ number + 1 = omega arith in
+      further_on number
+      ∙ ap (λ row. further number ++ rows_from row (changes_of_all p node))
+      (sym (head_on p node (repeated number node)) ∙ ap (head_of p) (ap (λ front. front ++ repeated number node) (sym (append-nil node)) ∙ sym (repeated_joined 1 number node) ∙ ap (λ n. repeated n node) turned))
+
+  -- parts bring new rows where each of them does
+  all_new : (number : ℕ) → ((i : ℕ) → 1 ≤ i → i ≤ number → AreNew (rows_of p node) (part_after i)) → AreNew (rows_of p node) (further number)
+  all_new zero each = λ k d inside. absurd (omega arith)
+  all_new (suc number) each =
+      let one : number + 1 ≡ suc number = omega arith in
+      subst (λ n. AreNew (rows_of p node) (further n)) one
+      (subst (AreNew (rows_of p node)) (sym (further_part number))
+      (All-append (λ row. Contains (rows_of p node) row → ⊥) (further number) (part_after (number + 1))
+      (all_new number (λ i low high. each i low (omega arith)))
+      (each (number + 1) (omega arith) (omega arith))))
+
+  each_new : (number : ℕ) → AreNew (rows_of p node) (further number) → (i : ℕ) → 1 ≤ i → i ≤ number → AreNew (rows_of p node) (part_after i)
+  each_new zero new i low high = absurd (omega arith)
+  each_new (suc number) new i low high =
+      let one : suc number ≡ number + 1 = omega arith in
+      let joined : AreNew (rows_of p node) (further number ++ part_after (number + 1)) = subst (AreNew (rows_of p node)) (ap further one ∙ further_part number) new in
+      elim (cases_lt number i) [
+        | inl last ↦
+            let end : number + 1 ≡ i = omega (arith, last, high) in
+            subst (λ n. AreNew (rows_of p node) (part_after n)) end (all_behind (λ row. Contains (rows_of p node) row → ⊥) (further number) (part_after (number + 1)) joined)
+        | inr before ↦ each_new number (all_front (λ row. Contains (rows_of p node) row → ⊥) (further number) (part_after (number + 1)) joined) i low (omega (arith, before))
+      ]
+
+  -- where as many parts as two numbers say come home, the part after the one number brings new rows where that after the other does
+  mirrored : (i j : ℕ) → head_after (i + j) ≡ rounds p.stage → AreNew (rows_of p node) (part_after i) → AreNew (rows_of p node) (part_after j)
+  mirrored i j home new = λ k d inside held.
+      let rows = rows_of p node in
+      let low : k < length rows = omega (arith, inside, part_long j) in
+      let (m, under, is) = held in
+      let far : get_or rows m [] ≡ product (head_after j) (get_or rows k []) =
+      get_or_default rows m [] _ under ∙ is ∙ get_or_default (part_after j) k d [] inside ∙ part_at j k low in
+      let undoes : product (head_after i) (head_after j) ≡ rounds p.stage =
+      sym (head_joined row_laws p (repeated i node) (repeated j node)) ∙ ap (head_of p) (sym (repeated_joined i j node)) ∙ home in
+      let back : get_or (part_after i) m [] ≡ get_or rows k [] =
+      part_at i m under ∙ ap (product (head_after i)) far
+      ∙ undone row_laws p.stage (head_after i) (head_after j) (get_or rows k []) (last_is_row row_laws p.stage (changes_of_all p (repeated j node))) undoes (rows_are_rows row_laws p.stage (changes_of_all p node) k [] low) in
+      new m [] (omega (arith, under, part_long i)) (subst (Contains rows) (sym back) (k, low, get_or_default rows k _ [] low))
+
+  -- so the first half of them tells of all
+  module _ (number half : ℕ) (home : head_after (number + 1) ≡ rounds p.stage) (within : half ≤ number) (enough : number ≤ 2 * half) where
+    half_is_new : AreNew (rows_of p node) (further number) → AreNew (rows_of p node) (further half)
+    half_is_new new = all_new half (λ i low high. each_new number new i low (omega (arith, high, within)))
+
+    all_are_new : AreNew (rows_of p node) (further half) → AreNew (rows_of p node) (further number)
+    all_are_new new = all_new number (λ i low high. elim (cases_lt half i) [
+      | inr near ↦ each_new half new i low (omega (arith, near))
+      | inl far ↦
+          let other : number + 1 - i + i ≡ number + 1 = omega (arith, high) in
+          mirrored (number + 1 - i) i (ap head_after other ∙ home) (each_new half new (number + 1 - i) (omega (arith, high)) (omega (arith, far, enough)))
+    ])
+
+    half_told : (b : Bool) → (IsTrue b ↔ AreNew (rows_of p node) (further half)) → IsTrue b ↔ AreNew (rows_of p node) (further number)
+    half_told b told = (λ h. all_are_new (told.0 h), λ new. told.1 (half_is_new new))
+
   -- so a walk, which keeps the rows of the node, tells whether all rows of the touch differ
-  pub touch_told : (kept : List (List ℕ)) (fresh : ℕ) (head : List ℕ) (steps : List ℕ) (number : ℕ) (b : Bool) → AreRows p node kept fresh → rows_differ (rows_of p node) ≡ true →
-      head ≡ head_of p node → steps ≡ node → number + 1 ≡ parts_of p → (IsTrue b ↔ AreNew kept (rows_from head (changes_of_all p (repeated number steps)))) →
-      b ≡ rows_differ (rows_of p (touch_of p node))
-  touch_told kept fresh head steps number b are differ head_is steps_are parts told =
+  pub touch_told : (kept : List (List ℕ)) (fresh : ℕ) (head : List ℕ) (steps : List ℕ) (parts : ℕ) (b : Bool) → AreRows p node kept fresh → rows_differ (rows_of p node) ≡ true →
+      head_of p (touch_of p node) ≡ rounds p.stage → head ≡ head_of p node → steps ≡ node → parts ≡ parts_of p → 1 ≤ parts →
+      (IsTrue b ↔ AreNew kept (rows_from head (changes_of_all p (repeated (parts / 2) steps)))) → b ≡ rows_differ (rows_of p (touch_of p node))
+  touch_told kept fresh head steps parts b are differ home head_is steps_are parts_are some told =
       let differ' : AllDiffer (rows_of p node) = (rows_differ_decided (rows_of p node)).0 differ in
-      let told' : IsTrue b ↔ AreNew (rows_of p node) (further number) =
-      subst (λ rows. IsTrue b ↔ AreNew rows (further number)) (whole p node kept fresh are differ')
-      (subst (λ row. IsTrue b ↔ AreNew kept (rows_from row (changes_of_all p (repeated number node)))) head_is
-      (subst (λ word. IsTrue b ↔ AreNew kept (rows_from head (changes_of_all p (repeated number word)))) steps_are told)) in
+      let told' : IsTrue b ↔ AreNew (rows_of p node) (further (parts / 2)) =
+      subst (λ rows. IsTrue b ↔ AreNew rows (further (parts / 2))) (whole p node kept fresh are differ')
+      (subst (λ row. IsTrue b ↔ AreNew kept (rows_from row (changes_of_all p (repeated (parts / 2) node)))) head_is
+      (subst (λ word. IsTrue b ↔ AreNew kept (rows_from head (changes_of_all p (repeated (parts / 2) word)))) steps_are told)) in
+      let all : parts - 1 + 1 ≡ parts_of p = omega (arith, some, parts_are) in
+      let home' : head_after (parts - 1 + 1) ≡ rounds p.stage = ap head_after all ∙ home in
       same_from_decides b (rows_differ (rows_of p (touch_of p node)))
-      (subst (λ n. IsTrue b ↔ AllDiffer (rows_of p (repeated n node))) parts (parts_told number b differ' told'))
+      (subst (λ n. IsTrue b ↔ AllDiffer (rows_of p (repeated n node))) all
+      (parts_told (parts - 1) b differ' (half_told (parts - 1) (parts / 2) home' (omega (arith, some)) (omega arith) b told')))
       (rows_differ_decided (rows_of p (touch_of p node)))

@@ -149,19 +149,21 @@ impl<'a> Walk<'a> {
         self.rows.has_repeat(self.steps.steps().len())
     }
 
-    /// Whether all rows of the node's touch differ, where those of the node do. It takes no memory, and stops at the
-    /// first row of the node that comes again.
+    /// Whether all rows of the node's touch differ, where those of the node do and the touch comes home. It takes no
+    /// memory, rings half of the parts, and stops at the first row of the node that comes again.
     pub fn parts_differ(&self) -> bool
         requires fresh { rows_differ (rows_of self.now.problem self.now.node) ≡ true }
+        requires home { head_of self.now.problem (touch_of self.now.problem self.now.node) ≡ rounds self.now.problem.stage }
         ensures { result ≡ rows_differ (rows_of self.now.problem (touch_of self.now.problem self.now.node)) }
     {
-        let further = parts_of(self.problem) - 1;
+        // Where a row of the node comes again in a later part, one comes as many parts before the end too.
+        let parts = parts_of(self.problem);
         bring_new_rows(
             &self.rows,
             self.problem,
             self.steps.steps(),
             self.ends.last().head,
-            further,
+            parts / 2,
         )
     }
 

@@ -1,7 +1,8 @@
 use Rattle.std.proofs.Common.{◌≡◌, ℕ, ◌+◌, ◌-◌, ◌≤◌, ◌∙◌, ◌↔◌, List, length, sym, ap, subst, arith}
 use Rattle.std.specs.Prelude.{IsTrue}
 use Rattle.std.proofs.lemmas.Bool.Decides.{same_from_decides}
-use Rattle.cr_model.specs.Callings.{changes_of_all, rows_from, rows_of, AllDiffer}
+use Rattle.cr_row.specs.Rows.{rounds}
+use Rattle.cr_model.specs.Callings.{rows_of, head_of}
 use Rattle.cr_model.specs.Dead.{parts_of}
 use Rattle.cr_model.specs.Decided.{rows_differ}
 use Rattle.cr_model.specs.OneTurn.{touch_of}
@@ -16,9 +17,6 @@ use Rattle.cr_prune.proofs.Limits.{head_long}
 use Rattle.cr_prune.proofs.Multiplied.{touch_told}
 use Rattle.cr_prune.proofs.walk.Walk.parts_differ.Goals as goal
 
-pub overflow_sub-further : goal.overflow_sub-further
-overflow_sub-further c = omega (arith, c.parts_of-further.ensures.is, some_parts c.self.inside.problem.now c.parts_of-further.ensures.sound)
-
 pub bring_new_rows-requires-clause-same_stage : goal.bring_new_rows-requires-clause-same_stage
 bring_new_rows-requires-clause-same_stage c =
     let p = c.self.inside.problem.now in
@@ -29,9 +27,10 @@ pub returns : goal.returns
 returns c =
     let p = c.self.inside.problem.now in
     let node = c.self.inside.steps in
-    let some = some_parts p c.parts_of-further.ensures.sound in
-    let parts : c.parts_of-further.result - 1 + 1 ≡ parts_of p = omega (arith, c.parts_of-further.ensures.is, some) in
-    touch_told p node c.self.inside.rows.stack.rows c.self.inside.rows.fresh c.last.result.head c.steps.result.now (c.parts_of-further.result - 1) c.bring_new_rows.result c.self.invariant.rows
-    (ap (λ (w : WalkParts). rows_differ (rows_of w.problem w.node)) c.self.view_is ∙ c.requires.fresh)
-    (ap (λ (e : LeadEnd). e.head) (c.last.ensures p node c.self.invariant.ends)) c.steps.ensures.is parts c.bring_new_rows.ensures
+    let some : 1 ≤ c.parts_of-parts.result = omega (arith, c.parts_of-parts.ensures.is, some_parts p c.parts_of-parts.ensures.sound) in
+    let home : head_of p (touch_of p node) ≡ rounds p.stage =
+    subst (λ (w : WalkParts). head_of w.problem (touch_of w.problem w.node) ≡ rounds w.problem.stage) (sym c.self.view_is) c.requires.home in
+    touch_told p node c.self.inside.rows.stack.rows c.self.inside.rows.fresh c.last.result.head c.steps.result.now c.parts_of-parts.result c.bring_new_rows.result c.self.invariant.rows
+    (ap (λ (w : WalkParts). rows_differ (rows_of w.problem w.node)) c.self.view_is ∙ c.requires.fresh) home
+    (ap (λ (e : LeadEnd). e.head) (c.last.ensures p node c.self.invariant.ends)) c.steps.ensures.is c.parts_of-parts.ensures.is some c.bring_new_rows.ensures
     ∙ ap (λ (w : WalkParts). rows_differ (rows_of w.problem (touch_of w.problem w.node))) c.self.view_is
