@@ -180,18 +180,18 @@ module _ (p : ProblemParts) (node : List ℕ) where
     half_told b told = (λ h. all_are_new (told.0 h), λ new. told.1 (half_is_new new))
 
   -- so a walk, which keeps the rows of the node, tells whether all rows of the touch differ
-  pub touch_told : (kept : List (List ℕ)) (fresh : ℕ) (head : List ℕ) (steps : List ℕ) (parts : ℕ) (b : Bool) → AreRows p node kept fresh → rows_differ (rows_of p node) ≡ true →
-      head_of p (touch_of p node) ≡ rounds p.stage → head ≡ head_of p node → steps ≡ node → parts ≡ parts_of p → 1 ≤ parts →
-      (IsTrue b ↔ AreNew kept (rows_from head (changes_of_all p (repeated (parts / 2) steps)))) → b ≡ rows_differ (rows_of p (touch_of p node))
-  touch_told kept fresh head steps parts b are differ home head_is steps_are parts_are some told =
+  pub touch_told : (kept : List (List ℕ)) (fresh : ℕ) (head : List ℕ) (steps : List ℕ) (half : ℕ) (b : Bool) → AreRows p node kept fresh → rows_differ (rows_of p node) ≡ true →
+      head_of p (touch_of p node) ≡ rounds p.stage → head ≡ head_of p node → steps ≡ node → half < parts_of p → parts_of p ≤ 2 * half + 1 →
+      (IsTrue b ↔ AreNew kept (rows_from head (changes_of_all p (repeated half steps)))) → b ≡ rows_differ (rows_of p (touch_of p node))
+  touch_told kept fresh head steps half b are differ home head_is steps_are within enough told =
       let differ' : AllDiffer (rows_of p node) = (rows_differ_decided (rows_of p node)).0 differ in
-      let told' : IsTrue b ↔ AreNew (rows_of p node) (further (parts / 2)) =
-      subst (λ rows. IsTrue b ↔ AreNew rows (further (parts / 2))) (whole p node kept fresh are differ')
-      (subst (λ row. IsTrue b ↔ AreNew kept (rows_from row (changes_of_all p (repeated (parts / 2) node)))) head_is
-      (subst (λ word. IsTrue b ↔ AreNew kept (rows_from head (changes_of_all p (repeated (parts / 2) word)))) steps_are told)) in
-      let all : parts - 1 + 1 ≡ parts_of p = omega (arith, some, parts_are) in
-      let home' : head_after (parts - 1 + 1) ≡ rounds p.stage = ap head_after all ∙ home in
+      let told' : IsTrue b ↔ AreNew (rows_of p node) (further half) =
+      subst (λ rows. IsTrue b ↔ AreNew rows (further half)) (whole p node kept fresh are differ')
+      (subst (λ row. IsTrue b ↔ AreNew kept (rows_from row (changes_of_all p (repeated half node)))) head_is
+      (subst (λ word. IsTrue b ↔ AreNew kept (rows_from head (changes_of_all p (repeated half word)))) steps_are told)) in
+      let all : parts_of p - 1 + 1 ≡ parts_of p = omega (arith, within) in
+      let home' : head_after (parts_of p - 1 + 1) ≡ rounds p.stage = ap head_after all ∙ home in
       same_from_decides b (rows_differ (rows_of p (touch_of p node)))
       (subst (λ n. IsTrue b ↔ AllDiffer (rows_of p (repeated n node))) all
-      (parts_told (parts - 1) b differ' (half_told (parts - 1) (parts / 2) home' (omega (arith, some)) (omega arith) b told')))
+      (parts_told (parts_of p - 1) b differ' (half_told (parts_of p - 1) half home' (omega (arith, within)) (omega (arith, enough)) b told')))
       (rows_differ_decided (rows_of p (touch_of p node)))

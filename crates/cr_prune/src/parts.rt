@@ -1,10 +1,9 @@
 //! Whether further parts of a touch bring a row of its node again.
 
-ghost use Rattle.std.specs.Prelude.{◌≡◌, ◌↔◌, List, length, All, IsTrue, IfSome};
+ghost use Rattle.std.specs.Prelude.{◌≡◌, ◌+◌, ◌*◌, ◌<◌, ◌≤◌, ◌↔◌, List, length, All, IsTrue, IfSome};
 ghost use Rattle.cr_model.specs.Callings.{changes_of_all, rows_from, HasSteps};
 ghost use Rattle.cr_model.specs.Dead.{parts_of};
 ghost use Rattle.cr_model.specs.Queries.{repeated};
-ghost use Rattle.cr_model.specs.Sound.{IsSound};
 ghost use Rattle.cr_prune.specs.Parts.{AreNew, RingsPast};
 
 use crate::rows::Rows;
@@ -12,12 +11,13 @@ use crate::walk::changes_of;
 use cr_model::Problem;
 use cr_row::{Change, Row};
 
-/// The number of parts.
-pub fn parts_of(problem: &Problem) -> usize
-    ensures is { result ≡ parts_of problem.now }
-    ensures sound { IsSound problem.now }
+/// How many parts after the first have to be rung where the touch comes home: if a row of the node comes again later,
+/// one comes again as many parts before the end.
+pub fn parts_to_ring(problem: &Problem) -> usize
+    ensures within { result < parts_of problem.now }
+    ensures enough { parts_of problem.now ≤ 2 * result + 1 }
 {
-    problem.query().parts.unsigned_abs() as usize
+    problem.query().parts.unsigned_abs() as usize / 2
 }
 
 /// Whether so many parts, rung on from the head of the node, bring no row that is kept. It stops at the first that

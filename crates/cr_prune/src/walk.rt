@@ -19,7 +19,7 @@ ghost use Rattle.cr_prune.specs.Rung.{AreRows};
 ghost use Rattle.cr_prune.specs.Walks.{walk_from, parent, room_of};
 
 use crate::ends::{Ends, LeadEnd};
-use crate::parts::{bring_new_rows, parts_of};
+use crate::parts::{bring_new_rows, parts_to_ring};
 use crate::rows::Rows;
 use cr_leads::LeadTable;
 use cr_model::laws::joined_callings_multiply;
@@ -156,15 +156,9 @@ impl<'a> Walk<'a> {
         requires home { head_of self.now.problem (touch_of self.now.problem self.now.node) ≡ rounds self.now.problem.stage }
         ensures { result ≡ rows_differ (rows_of self.now.problem (touch_of self.now.problem self.now.node)) }
     {
-        // Where a row of the node comes again in a later part, one comes as many parts before the end too.
-        let parts = parts_of(self.problem);
-        bring_new_rows(
-            &self.rows,
-            self.problem,
-            self.steps.steps(),
-            self.ends.last().head,
-            parts / 2,
-        )
+        let head = self.ends.last().head;
+        let parts = parts_to_ring(self.problem);
+        bring_new_rows(&self.rows, self.problem, self.steps.steps(), head, parts)
     }
 
     /// Whether no rotation of the node is less than it.
