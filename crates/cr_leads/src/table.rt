@@ -110,6 +110,15 @@ impl LeadTable {
         head_of_all(self, calling.steps())
     }
 
+    /// The rows of a calling, in their order. Err where no memory is left.
+    pub fn rows(&self, alloc: Global, calling: &Calling) -> Result<Vec<Row>, NoMemory>
+        requires { HasLeads self.now calling.now }
+        ensures is { IfOk result (λ rows. (p : ProblemParts) → self.now ≡ lead_table p → rows.items ≡ rows_of p calling.now) }
+        ensures rows { IfOk result (λ rows. AreRows self.now.stage rows.items) }
+    {
+        rows_of_all(alloc, self, calling.steps())
+    }
+
     /// The rows of a calling, whether it comes home and whether they differ. Err where no memory is left.
     pub fn ring(&self, alloc: Global, calling: &Calling) -> Result<Rung, NoMemory>
         requires { HasLeads self.now calling.now }

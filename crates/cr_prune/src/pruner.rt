@@ -1,12 +1,12 @@
 //! Why a node is dead.
 
-ghost use Rattle.std.specs.Prelude.{◌≡◌, ◌+◌, ◌*◌, ◌<◌, ◌≤◌, ◌||◌, ℕ, not, nat_lt, [], ◌∷◌, length, find, IfSome};
+ghost use Rattle.std.specs.Prelude.{◌≡◌, ◌+◌, ◌*◌, ◌<◌, ◌≤◌, ◌||◌, ℕ, not, nat_lt, [], ◌∷◌, length, find, IfSome, is_some, false};
 ghost use Rattle.cr_model.specs.declared.reason.Reason.TheVariants.{Long, SelfFalse, Again, Home, Far, TooMany, TooFew, TurnsBack};
 ghost use Rattle.cr_model.specs.Callings.{shortest, length_of, rows_of};
 ghost use Rattle.cr_model.specs.Levels.{at_least};
 ghost use Rattle.cr_model.specs.Queries.{cap, part_cap};
 ghost use Rattle.cr_model.specs.Decided.{rows_differ};
-ghost use Rattle.cr_model.specs.Dead.{HasNoneBelow, is_self_false, is_far, is_turned_back, holds, dead};
+ghost use Rattle.cr_model.specs.Dead.{HasNoneBelow, is_again, is_home, is_too_many, is_too_few, is_self_false, is_far, is_turned_back, holds, dead};
 ghost use Rattle.cr_model.specs.Sizes.{child};
 ghost use Rattle.cr_leads.specs.Tables.{lead_table};
 ghost use Rattle.cr_reach.specs.Tables.{reach_table};
@@ -93,8 +93,18 @@ impl<'a> Pruner<'a> {
         let rung = self.length_with(walk, step);
         self.is_long(rung)
             || self.is_false(step)
-            || self.is_far_with(walk, step, rung)
-            || self.is_cut_by_leads(walk, step)
+            || walk.is_hopeless_with(step)
+            || self.is_cut(walk, step, rung)
+    }
+
+    /// Whether the walk's node, which did not die unrung, is dead: by its rows, or by the rows that fit a pattern.
+    pub fn dies_rung(&self, walk: &Walk) -> bool
+        requires same { walk.now.problem ≡ self.now.problem }
+        requires some { 0 < length walk.now.node }
+        ensures { (most : ℕ) → dies_unrung self.now.problem most walk.now.node ≡ false
+            → result ≡ is_some (dead self.now.problem most walk.now.node) }
+    {
+        self.is_cut_by_rows(walk) || is_hopeless(walk)
     }
 
     // The first reason that the rows tell.
@@ -192,14 +202,25 @@ impl<'a> Pruner<'a> {
         self.is_far(rung, &head_after(self.leads, walk.head(), step))
     }
 
-    // Whether the child by a step has too many or too few leads, or turns back.
-    fn is_cut_by_leads(&self, walk: &Walk, step: u8) -> bool
+    // Whether a row of the node stands twice, or rounds comes too early.
+    fn is_cut_by_rows(&self, walk: &Walk) -> bool
+        requires same { walk.now.problem ≡ self.now.problem }
+        requires some { 0 < length walk.now.node }
+        ensures { result ≡ (is_again self.now.problem walk.now.node || is_home self.now.problem walk.now.node) }
+    {
+        walk.has_repeat() || walk.is_home(self.facts.several)
+    }
+
+    // Whether the child by a step turns back, or home is too far from its head, after so many rows.
+    fn is_cut(&self, walk: &Walk, step: u8, rung: u64) -> bool
         requires same { walk.now.problem ≡ self.now.problem }
         requires step { step < length self.now.problem.leads }
-        ensures { result ≡ (is_hopeless_by_leads self.now.problem (child walk.now.node step)
-            || is_turned_back self.now.problem (child walk.now.node step)) }
+        requires is { rung ≡ length_of self.now.problem (child walk.now.node step) }
+        requires few { rung ≤ 13000 }
+        ensures { (most : ℕ) → self.now.reach ≡ reach_table self.now.problem most
+            → result ≡ (is_turned_back self.now.problem (child walk.now.node step) || is_far self.now.problem most (child walk.now.node step)) }
     {
-        walk.is_hopeless_with(step) || self.is_turned_back_with(walk, step)
+        self.is_turned_back_with(walk, step) || self.is_far_with(walk, step, rung)
     }
 
     // TurnsBack, if the query is the same for all rotations and the node turns back.
@@ -217,4 +238,11 @@ impl<'a> Pruner<'a> {
     {
         self.facts.turn_free && walk.turns_back_with(step)
     }
+}
+
+// Whether the node has too many or too few of what the query counts.
+fn is_hopeless(walk: &Walk) -> bool
+    ensures { result ≡ (is_too_many walk.now.problem walk.now.node || is_too_few walk.now.problem walk.now.node) }
+{
+    walk.hopeless().is_some()
 }

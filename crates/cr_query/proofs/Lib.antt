@@ -6,4 +6,5 @@ pub mod Sizes
 pub mod Edits
 pub mod Moves
 pub mod Raising
+pub mod Tellings
 pub mod Metering

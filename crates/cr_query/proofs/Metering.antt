@@ -1,24 +1,20 @@
--- What a meter keeps, and what it tells of its node.
-use Rattle.std.proofs.Common.{◌≡◌, ℕ, zero, suc, ◌+◌, ◌-◌, ◌*◌, ◌/◌, ◌<◌, ◌≤◌, ◌↔◌, Bool, true, false, cond, ◌||◌, List, [], ◌∷◌, ◌++◌, length, get_or, map, take, drop, flat_map, sum_by, All, count_by, nat_eq, Option, Some, None, refl, sym, ap, ap₂, ◌∙◌, subst, arith, length-append, append-nil}
-use Rattle.std.specs.List.{list_any, range_with_len}
-use Rattle.std.proofs.Math.Bool.{or_comm, or_assoc}
+-- What a meter keeps of its node, with one lead more, and with one fewer.
+use Rattle.std.proofs.Common.{◌≡◌, ℕ, zero, suc, ◌+◌, ◌-◌, ◌*◌, ◌<◌, ◌≤◌, ◌↔◌, Bool, true, false, cond, ◌||◌, List, [], ◌∷◌, ◌++◌, length, get_or, map, take, drop, flat_map, sum_by, All, nat_eq, Some, refl, sym, ap, ap₂, ◌∙◌, subst, arith, length-append, append-nil}
+use Rattle.std.specs.List.{range_with_len}
 use Rattle.std.proofs.lemmas.List.{length-map, get_or-map, get_or_append_left, take_all, drop_all}
 use Rattle.std.proofs.Math.Seq.{get_or-append_seam}
 use Rattle.std.proofs.Math.Nat.{suc-mul}
-use Rattle.std.proofs.lemmas.List.Elements.{All-head, All-tail, All-append, All-nil, All-cons, All-map, All-from_get_or, All-weaker}
+use Rattle.std.proofs.lemmas.List.Elements.{All-append, All-nil, All-cons, All-map, All-from_get_or, All-weaker}
 use Rattle.std.proofs.lemmas.List.FromFn.{length-range_with_len, length-map-range_with_len}
-use Rattle.std.proofs.lemmas.List.Folds.{map_fixed}
 use Rattle.std.proofs.lemmas.List.Sums.{sum_by-le, sum_by-append, count_by-le-length}
 use Rattle.cr_row.specs.Rows.{IsRow, rounds, product}
 use Rattle.cr_leads.specs.Tables.{TableParts, lead_table, IsLead}
-use Rattle.cr_model.specs.declared.query.Count.{Count}
-use Rattle.cr_model.specs.declared.query.MethodCount.{MethodCount}
 use Rattle.cr_model.specs.Problems.{PatternParts, ProblemParts}
-use Rattle.cr_model.specs.Callings.{mark_of, method_of, letter_of, lead_length, changes_of, changes_of_all, shortest, rows_of, length_of, head_of, HasSteps}
-use Rattle.cr_model.specs.Dead.{parts_of, left_of, leads_left, above_com, below_com, is_too_many, is_too_few}
+use Rattle.cr_model.specs.Callings.{mark_of, method_of, letter_of, lead_length, changes_of, changes_of_all, rows_of, length_of, head_of, HasSteps}
+use Rattle.cr_model.specs.Dead.{parts_of}
 use Rattle.cr_model.specs.OneTurn.{touch_of}
-use Rattle.cr_model.specs.Queries.{IsWithin, fits, part_cap, leads_marked, leads_lettered, rows_fitting, changes_of_method}
-use Rattle.cr_model.specs.Right.{FitsStage, pattern_at}
+use Rattle.cr_model.specs.Queries.{IsWithin, fits, leads_marked, leads_lettered, changes_of_method}
+use Rattle.cr_model.specs.Right.{FitsStage}
 use Rattle.cr_model.specs.Sizes.{child}
 use Rattle.cr_model.specs.Sound.{IsSound, sound_leads, sound_patterns}
 use Rattle.cr_model.proofs.Measured.{lead_few, length_by_leads}
@@ -27,81 +23,12 @@ use Rattle.cr_query.specs.declared.gauges.Gauge.{Gauge}
 use Rattle.cr_query.specs.declared.fittings.Fitting.{Fitting}
 use Rattle.cr_query.specs.declared.kinds.Kind.{Kind}
 use Rattle.cr_query.specs.declared.numbers.Numbers.{Numbers}
-use Rattle.cr_query.specs.Gauges.{raised, lowered, rows_more, rows_fewer, perhaps_raised, is_above, is_below, mark_in, letter_in, too_many_leads, too_few_leads, room_left, HasSmallCounts, has_more_rows, has_fewer_rows}
+use Rattle.cr_query.specs.Gauges.{raised, lowered, rows_more, rows_fewer, too_many_leads, too_few_leads, room_left, HasSmallCounts}
 use Rattle.cr_query.specs.Kinds.{kind_of}
 use Rattle.cr_query.specs.Meeting.{MeetsCounts, MeetsMethodCounts}
-use Rattle.cr_query.specs.Meters.{mark_gauge, letter_gauge, fitting_of, marked, lettered, fitted, kinds_of, change_between, HasNumbers, IsCounted, has_too_many_leads, has_too_few_leads, has_too_few_rows, is_hopeless_by_leads}
+use Rattle.cr_query.specs.Meters.{mark_gauge, letter_gauge, fitting_of, marked, lettered, fitted, kinds_of, change_between, HasNumbers, IsCounted, is_hopeless_by_leads}
 use Rattle.cr_query.proofs.Raising.{marks_raised, letters_raised, marks_lowered, letters_lowered, patterns_raised, patterns_lowered, changes_pushed}
-
--- a test of mapped items
-pub any_mapped : {X Y : Type 0} (test : Y → Bool) (g : X → Y) (xs : List X) → list_any test (map g xs) ≡ list_any (λ x. test (g x)) xs
-any_mapped test g [] = refl
-any_mapped test g (x ∷ xs) = ap (λ b. test (g x) || b) (any_mapped test g xs)
-
--- with no lead added a gauge stays
-pub none_added : (gauges : List Gauge) → map (perhaps_raised None) gauges ≡ gauges
-none_added gauges = map_fixed (perhaps_raised None) gauges (λ k d inside. refl)
-
--- with one it is raised
-pub one_added : (of : ℕ) (gauges : List Gauge) → map (perhaps_raised (Some of)) gauges ≡ map (raised of) gauges
-one_added of [] = refl
-one_added of (gauge ∷ gauges) = ap (λ l. raised of gauge ∷ l) (one_added of gauges)
-
--- what gauges tell of the node whose counts they have
-module _ (p : ProblemParts) (node : List ℕ) (numbers : Numbers) (marks letters : List Gauge) (added : Option Kind) (changes : ℕ)
-    (found : HasNumbers p numbers)
-    (by_mark : map (perhaps_raised (mark_in added)) marks ≡ map (marked p node) p.query.counts)
-    (by_letter : map (perhaps_raised (letter_in added)) letters ≡ map (lettered p node) p.query.method_counts)
-    (changed : changes ≡ changes_of_method p node) where
-  of_marks : (test : Gauge → Bool) → list_any (λ gauge. test (perhaps_raised (mark_in added) gauge)) marks ≡ list_any (λ count. test (marked p node count)) p.query.counts
-  of_marks test =
-      sym (any_mapped test (perhaps_raised (mark_in added)) marks)
-      ∙ ap (list_any test) by_mark
-      ∙ any_mapped test (marked p node) p.query.counts
-
-  of_letters : (test : Gauge → Bool) → list_any (λ gauge. test (perhaps_raised (letter_in added) gauge)) letters ≡ list_any (λ count. test (lettered p node count)) p.query.method_counts
-  of_letters test =
-      sym (any_mapped test (perhaps_raised (letter_in added)) letters)
-      ∙ ap (list_any test) by_letter
-      ∙ any_mapped test (lettered p node) p.query.method_counts
-
-  pub many_told : too_many_leads numbers marks letters added changes ≡ has_too_many_leads p node
-  many_told =
-      ap₂ (λ a b. a || (b || above_com numbers.com (numbers.parts * changes))) (of_marks (is_above numbers.parts)) (of_letters (is_above numbers.parts))
-      ∙ ap₂ (λ parts n. list_any (λ count. is_above parts (marked p node count)) p.query.counts
-          || (list_any (λ count. is_above parts (lettered p node count)) p.query.method_counts || above_com numbers.com (parts * n))) found.parts changed
-      ∙ ap (λ limits. list_any (λ count. is_above (parts_of p) (marked p node count)) p.query.counts
-          || (list_any (λ count. is_above (parts_of p) (lettered p node count)) p.query.method_counts || above_com limits (parts_of p * changes_of_method p node))) found.com
-
-  pub few_told : (left : ℕ) → left ≡ leads_left p node → too_few_leads numbers marks letters added changes left ≡ has_too_few_leads p node
-  few_told left is =
-      ap₂ (λ a b. a || (b || below_com numbers.com (numbers.parts * (changes + left) + numbers.parts - 1))) (of_marks (is_below numbers.parts left)) (of_letters (is_below numbers.parts left))
-      ∙ ap₂ (λ parts n. list_any (λ count. is_below parts left (marked p node count)) p.query.counts
-          || (list_any (λ count. is_below parts left (lettered p node count)) p.query.method_counts || below_com numbers.com (parts * (n + left) + parts - 1))) found.parts changed
-      ∙ ap₂ (λ more limits. list_any (λ count. is_below (parts_of p) more (marked p node count)) p.query.counts
-          || (list_any (λ count. is_below (parts_of p) more (lettered p node count)) p.query.method_counts
-          || below_com limits (parts_of p * (changes_of_method p node + more) + parts_of p - 1))) is found.com
-
--- the leads that are left
-pub room_is : (p : ProblemParts) (node : List ℕ) (numbers : Numbers) (long : ℕ) → HasNumbers p numbers → long ≡ length_of p node
-    → room_left numbers long ≡ leads_left p node
-room_is p node numbers long found is =
-    ap₂ (λ most n. (most - n) / numbers.shortest) found.part_most is
-    ∙ ap (λ s. (part_cap p - length_of p node) / s) found.shortest
-
-pub in_order : (a b c r : Bool) → ((a || (b || c)) || r) ≡ (a || (b || (r || c)))
-in_order true b c r = refl
-in_order false true c r = refl
-in_order false false c r = or_comm c r
-
--- the order of the reasons
-pub many_in_order : (p : ProblemParts) (node : List ℕ) (rows : Bool)
-    → rows ≡ list_any has_more_rows (map (fitted p node) p.query.patterns) → (has_too_many_leads p node || rows) ≡ is_too_many p node
-many_in_order p node rows is =
-    in_order _ _ _ rows
-    ∙ ap (λ r. list_any (λ count. is_above (parts_of p) (marked p node count)) p.query.counts
-        || (list_any (λ count. is_above (parts_of p) (lettered p node count)) p.query.method_counts
-        || (r || above_com p.query.com (parts_of p * changes_of_method p node)))) (is ∙ any_mapped has_more_rows (fitted p node) p.query.patterns)
+use Rattle.cr_query.proofs.Tellings.{one_added, many_told, few_told, room_is}
 
 -- numbers of a node
 few_changed : (p : ProblemParts) (node : List ℕ) → changes_of_method p node ≤ length node
@@ -191,7 +118,7 @@ module _ (p : ProblemParts) (node : List ℕ) (kinds : List Kind) (marks letters
       ap₂ (λ a b. a || b)
       (many_told p (child node step) numbers marks letters (Some kind) (changes + change) found by_mark by_letter (change_raised change is))
       (few_told p (child node step) numbers marks letters (Some kind) (changes + change) found by_mark by_letter (change_raised change is) left
-          (left_is ∙ room_is p (child node step) numbers (long + kind.length) found (length_raised lengths)))
+      (left_is ∙ room_is p (child node step) numbers (long + kind.length) found (length_raised lengths)))
 
 -- a head is as long as the stage
 abbrev pub HeadsMultiply : Type 0
@@ -304,8 +231,8 @@ marks_met p node marks parts is by_mark = (
   λ met. subst (All (λ (gauge : Gauge). IsWithin gauge.min gauge.max (parts * gauge.number))) (sym by_mark)
       (All-map (λ (gauge : Gauge). IsWithin gauge.min gauge.max (parts * gauge.number)) (marked p node) p.query.counts
       (λ k d inside.
-          let count = get_or p.query.counts k d in
-          subst (IsWithin count.min count.max) (sym (ap (λ n. n * leads_marked p count.mark node) is ∙ sym (repeated_count (λ s. cond (nat_eq (mark_of p s) count.mark) 1 0) node 0 (parts_of p)))) (met k d inside))),
+      let count = get_or p.query.counts k d in
+      subst (IsWithin count.min count.max) (sym (ap (λ n. n * leads_marked p count.mark node) is ∙ sym (repeated_count (λ s. cond (nat_eq (mark_of p s) count.mark) 1 0) node 0 (parts_of p)))) (met k d inside))),
 )
 
 pub letters_met : (p : ProblemParts) (node : List ℕ) (letters : List Gauge) (parts : ℕ) → parts ≡ parts_of p → letters ≡ map (lettered p node) p.query.method_counts
@@ -320,8 +247,8 @@ letters_met p node letters parts is by_letter = (
   λ met. subst (All (λ (gauge : Gauge). IsWithin gauge.min gauge.max (parts * gauge.number))) (sym by_letter)
       (All-map (λ (gauge : Gauge). IsWithin gauge.min gauge.max (parts * gauge.number)) (lettered p node) p.query.method_counts
       (λ k d inside.
-          let count = get_or p.query.method_counts k d in
-          subst (IsWithin count.min count.max) (sym (ap (λ n. n * leads_lettered p count.letter node) is ∙ sym (repeated_count (λ s. cond (nat_eq (letter_of p s) count.letter) 1 0) node 0 (parts_of p)))) (met k d inside))),
+      let count = get_or p.query.method_counts k d in
+      subst (IsWithin count.min count.max) (sym (ap (λ n. n * leads_lettered p count.letter node) is ∙ sym (repeated_count (λ s. cond (nat_eq (letter_of p s) count.letter) 1 0) node 0 (parts_of p)))) (met k d inside))),
 )
 
 -- what a list holds that was lent whole and written back

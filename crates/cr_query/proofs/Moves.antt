@@ -1,8 +1,9 @@
 -- A meter's node, move by move.
-use Rattle.std.proofs.Common.{◌≡◌, ℕ, List, [], ◌∷◌, ◌++◌, map, Option, Some, refl, sym, ap, ◌∙◌, append-nil}
+use Rattle.std.proofs.Common.{◌≡◌, ℕ, ◌-◌, List, [], ◌∷◌, ◌++◌, length, map, take, take_at, arith, length-append, Option, Some, refl, sym, ap, ◌∙◌, append-nil}
 use Rattle.std.proofs.lemmas.List.{append_assoc}
 use Rattle.cr_model.specs.Problems.{ProblemParts}
-use Rattle.cr_query.specs.Meters.{meter_from, node_after, node_after_all, moved_by_all}
+use Rattle.cr_model.specs.Sizes.{child}
+use Rattle.cr_query.specs.Meters.{parent, meter_from, node_after, node_after_all, moved_by_all}
 
 -- the moves are the node's
 by_node : (p : ProblemParts) (node : List ℕ) (moves : List (Option ℕ)) → moved_by_all (meter_from p node) moves ≡ meter_from p (node_after_all node moves)
@@ -21,3 +22,9 @@ told_afresh p moves =
     by_node p [] moves
     ∙ ap (meter_from p) (sym (added [] (node_after_all [] moves)))
     ∙ sym (by_node p [] (map (λ step. Some step) (node_after_all [] moves)))
+
+-- the parent of a child is the node
+pub parent_of_child : (node : List ℕ) (step : ℕ) → parent (child node step) ≡ node
+parent_of_child node step =
+    let last : length (node ++ step ∷ []) - 1 ≡ length node = omega (arith, length-append node (step ∷ [])) in
+    ap (λ n. take n (node ++ step ∷ [])) last ∙ take_at node (step ∷ []) (length node) refl

@@ -1,15 +1,14 @@
 -- What a node's counts become with one lead more, and with one fewer.
-use Rattle.std.proofs.Common.{◌≡◌, ℕ, zero, suc, ◌+◌, ◌-◌, ◌<◌, ◌≤◌, Bool, true, false, cond, ◌||◌, List, [], ◌∷◌, ◌++◌, length, get_or, map, take, All, count_by, nat_eq, refl, sym, ap, ap₂, ◌∙◌, subst, arith, length-append}
-use Rattle.std.specs.List.{list_any, range_with_len}
-use Rattle.std.proofs.lemmas.List.Elements.{All-head, All-tail, All-append, All-nil, All-cons}
+use Rattle.std.proofs.Common.{◌≡◌, ℕ, ◌+◌, ◌-◌, ◌<◌, cond, List, [], ◌∷◌, ◌++◌, length, get_or, map, All, nat_eq, refl, sym, ap, ap₂, ◌∙◌, arith}
+use Rattle.std.proofs.lemmas.List.Elements.{All-head, All-tail}
 use Rattle.std.proofs.lemmas.List.FromFn.{get_or-map-range_with_len, length-map-range_with_len}
-use Rattle.std.proofs.lemmas.List.Sums.{sum_by_push, sum_by-append, count_by-le-length}
-use Rattle.std.proofs.lemmas.List.{get_or-map, append_assoc}
+use Rattle.std.proofs.lemmas.List.Sums.{sum_by_push, sum_by-append}
+use Rattle.std.proofs.lemmas.List.{get_or-map}
 use Rattle.cr_row.specs.Rows.{product}
 use Rattle.cr_model.specs.declared.query.Count.{Count}
 use Rattle.cr_model.specs.declared.query.MethodCount.{MethodCount}
 use Rattle.cr_model.specs.Problems.{PatternParts, ProblemParts}
-use Rattle.cr_model.specs.Callings.{mark_of, method_of, letter_of, lead_length, changes_of, rows_of, length_of, head_of, HasSteps}
+use Rattle.cr_model.specs.Callings.{mark_of, method_of, letter_of, rows_of, HasSteps}
 use Rattle.cr_model.specs.Queries.{fits, leads_marked, leads_lettered, rows_fitting, changes_of_method}
 use Rattle.cr_model.specs.Right.{FitsStage}
 use Rattle.cr_model.specs.Sizes.{child}

@@ -1,5 +1,5 @@
 -- Numbers of a sound problem.
-use Rattle.std.proofs.Common.{◌≤◌, ℤ, pos, ◌≤ℤ◌, ◌/◌, nat_abs, arith}
+use Rattle.std.proofs.Common.{◌≤◌, ℤ, pos, ◌≤ℤ◌, nat_abs, arith}
 use Rattle.std.proofs.Math.Nat.{div-le_self}
 use Rattle.std.proofs.lemmas.Int.{ints}
 use Rattle.cr_model.specs.Problems.{ProblemParts}

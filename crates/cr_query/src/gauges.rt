@@ -149,4 +149,3 @@ fn is_below(gauge: Gauge, parts: u64, more: u64) -> bool
 {
     falls_short(in_parts(parts, gauge.number + more), gauge.min)
 }
-

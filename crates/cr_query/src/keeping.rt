@@ -1,8 +1,9 @@
 //! Which rotation of a touch is kept.
 
-ghost use Rattle.std.specs.Prelude.{◌≡◌, ◌↔◌, ◌<◌, ◌≤◌, ℕ, List, length, take, drop, ◌++◌, IsTrue, IfOk};
+ghost use Rattle.std.specs.Prelude.{◌≡◌, ◌↔◌, ◌≤◌, true, length, IsTrue, IfOk};
 ghost use Rattle.cr_leads.specs.Tables.{lead_table};
 ghost use Rattle.cr_model.specs.Callings.{HasSteps};
+ghost use Rattle.cr_model.specs.Dead.{turn_free};
 ghost use Rattle.cr_model.specs.Touches.{Wanted, Kept, IsLess};
 ghost use Rattle.cr_model.specs.Turning.{IsLeastRotation};
 ghost use Rattle.cr_query.specs.Keeping.{IsBetter, HasNoneBetter};
@@ -20,8 +21,8 @@ use std::cmp::Ordering;
 /// Whether a calling is kept: it is a true touch that meets the query, and no rotation of it is so and less.
 /// Err where no memory is left.
 ///
-/// The calling is rung once. Where all rotations of a calling meet the query, or none, no rotation is rung;
-/// elsewhere each one that is less is, until one meets it.
+/// The calling is rung at most once. Where all rotations of a calling meet the query, or none, no rotation is
+/// rung or compared; elsewhere each one that is less is, until one meets the query.
 pub fn is_kept(
     alloc: Global,
     problem: &Problem,
@@ -32,16 +33,48 @@ pub fn is_kept(
     requires steps { HasSteps problem.now calling.now }
     ensures { IfOk result (λ kept. IsTrue kept ↔ Kept problem.now calling.now) }
 {
-    a_rotation_of_a_true_touch_is_one();
+    if turn_free(problem.query()) {
+        is_least_and_wanted(alloc, problem, leads, calling)
+    } else {
+        is_wanted_and_best(alloc, problem, leads, calling)
+    }
+}
+
+// The same, where all rotations of a calling meet the query, or none.
+fn is_least_and_wanted(
+    alloc: Global,
+    problem: &Problem,
+    leads: &LeadTable,
+    calling: &Calling,
+) -> Result<bool, NoMemory>
+    requires table { leads.now ≡ lead_table problem.now }
+    requires steps { HasSteps problem.now calling.now }
+    requires free { turn_free problem.now.query ≡ true }
+    ensures { IfOk result (λ kept. IsTrue kept ↔ Kept problem.now calling.now) }
+{
     a_rotation_of_a_wanted_touch_is_wanted();
+    if !is_least(alloc, calling)? {
+        return Ok(false);
+    }
+    is_wanted(alloc, problem, leads, calling)
+}
+
+// The same, where a rotation may meet the query that another does not.
+fn is_wanted_and_best(
+    alloc: Global,
+    problem: &Problem,
+    leads: &LeadTable,
+    calling: &Calling,
+) -> Result<bool, NoMemory>
+    requires table { leads.now ≡ lead_table problem.now }
+    requires steps { HasSteps problem.now calling.now }
+    ensures { IfOk result (λ kept. IsTrue kept ↔ Kept problem.now calling.now) }
+{
+    a_rotation_of_a_true_touch_is_one();
     if !is_wanted(alloc, problem, leads, calling)? {
         return Ok(false);
     }
-    if turn_free(problem.query()) {
-        is_least(alloc, calling)
-    } else {
-        none_is_better(alloc, problem, leads, calling)
-    }
+    none_is_better(alloc, problem, leads, calling)
 }
 
 // Whether a calling is a true touch that meets the query.

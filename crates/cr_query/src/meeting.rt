@@ -1,6 +1,6 @@
 //! Whether a calling meets the query.
 
-ghost use Rattle.std.specs.Prelude.{◌≡◌, ◌<◌, ◌↔◌, ℕ, length, All, IsTrue, IfOk};
+ghost use Rattle.std.specs.Prelude.{◌≡◌, ◌<◌, ◌↔◌, ℕ, true, List, length, All, IsTrue, IfOk};
 ghost use Rattle.cr_leads.specs.Tables.{lead_table};
 ghost use Rattle.cr_model.specs.Callings.{rows_of, HasSteps};
 ghost use Rattle.cr_model.specs.Queries.{IsWithin, rows_fitting, leads_marked, leads_lettered, MeetsCom, Meets, changes_of_method};
@@ -18,6 +18,8 @@ use std::alloc::Global;
 
 /// Whether a calling meets the query of its problem: its length is from `min` to the cap, it is so many
 /// equal words, and each count, pattern and limit on changes of method is met. Err where no memory is left.
+///
+/// It is rung only where the query has patterns.
 pub fn meets(
     alloc: Global,
     problem: &Problem,
@@ -31,8 +33,18 @@ pub fn meets(
     if !meets_by_leads(problem, calling) {
         return Ok(false);
     }
-    let rung = leads.ring(alloc, calling)?;
-    meets_by_rows(alloc, problem, &rung.rows)
+    if asks_nothing_of_rows(problem) {
+        return Ok(true);
+    }
+    let rows = leads.rows(alloc, calling)?;
+    meets_by_rows(alloc, problem, &rows)
+}
+
+// Whether there are no patterns.
+fn asks_nothing_of_rows(problem: &Problem) -> bool
+    ensures { result ≡ true → (rows : List (List ℕ)) → MeetsByRows problem.now rows }
+{
+    patterns_of(problem.query()).is_empty()
 }
 
 /// Whether all that the query asks of the leads is met.

@@ -164,7 +164,14 @@ impl Meter {
         let kind = kind_at(&self.kinds, step);
         let changes = self.changes + change_to(&self.kinds, &self.steps, kind.method);
         let left = leads_left(self.numbers, self.length + kind.length);
-        is_hopeless(self.numbers, &self.marks, &self.letters, Some(kind), changes, left)
+        is_hopeless(
+            self.numbers,
+            &self.marks,
+            &self.letters,
+            Some(kind),
+            changes,
+            left,
+        )
     }
 
     /// Whether the node's touch, which is so many times the node as the query has parts, meets each count of
@@ -213,13 +220,23 @@ impl Meter {
             return false;
         }
         let left = leads_left(self.numbers, self.length);
-        has_too_few_leads(self.numbers, &self.marks, &self.letters, None, self.changes, left)
+        has_too_few_leads(
+            self.numbers,
+            &self.marks,
+            &self.letters,
+            None,
+            self.changes,
+            left,
+        )
     }
 
     fn has_too_few_rows(&self) -> bool
         ensures { result ≡ has_too_few_rows self.now.problem self.now.node }
     {
-        some_have_fewer(&self.patterns, self.numbers.most.saturating_sub(self.length))
+        some_have_fewer(
+            &self.patterns,
+            self.numbers.most.saturating_sub(self.length),
+        )
     }
 
     // Whether the query has no counts and no limits on changes of method.

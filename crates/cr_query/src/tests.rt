@@ -1,23 +1,28 @@
+ghost use Rattle.std.specs.Prelude.{◌≡◌, ◌<◌, [], length, IfOk};
+ghost use Rattle.cr_leads.specs.Tables.{lead_table};
+ghost use Rattle.cr_model.specs.Callings.{HasSteps};
+
 use super::*;
 use cr_leads::LeadTable;
 use cr_model::Cell::{Any, Bell, Run};
-use cr_model::{Calling, Cell, Com, Count, Lead, Pattern, Problem, Query, Step};
-use cr_row::{Change, Stage};
+use cr_model::{Calling, Cell, Com, Count, Lead, MethodCount, Pattern, Problem, Query, Step};
+use cr_row::{Change, Row, Stage};
 use std::alloc::Global;
 use std::test::*;
 
 // A problem in short: of each lead the method, the mark and the changes, by the places made or `x` for none.
-// The length is exact, and so is the number of rows that fit the cells, where there are some.
+// The numbers are the least and the greatest of the length, and of the rows that fit the cells if there are some.
 #[derive(Clone, Copy)]
 struct Draft {
     stage: u8,
     letters: &'static [u8],
     leads: &'static [(u8, u8, &'static [u8])],
-    length: i64,
+    length: (i64, i64),
     parts: i64,
     counts: &'static [Count],
+    method_counts: &'static [MethodCount],
     cells: &'static [Cell],
-    fitting: i64,
+    fitting: (i64, i64),
     com: Option<Com>,
 }
 
@@ -29,11 +34,12 @@ const DOUBLES: Draft = Draft {
         (0, b'p', b"5.1.5.1.5.1.5.1.5.125"),
         (0, b'b', b"5.1.5.1.5.1.5.1.5.145"),
     ],
-    length: 60,
+    length: (60, 60),
     parts: 1,
     counts: &[],
+    method_counts: &[],
     cells: &[],
-    fitting: 0,
+    fitting: (0, 0),
     com: None,
 };
 
@@ -45,7 +51,7 @@ const SPLICED: Draft = Draft {
         (0, b'p', b"x.14.x.14.x.14.x.12"),
         (1, b'p', b"x.14.x.14.x.14.x.12"),
     ],
-    length: 24,
+    length: (24, 24),
     ..DOUBLES
 };
 
@@ -61,9 +67,15 @@ const TWO_BOBS: &[Count] = &[Count {
     max: 2,
 }];
 
+const FIVE_BOBS: &[Count] = &[Count {
+    mark: b'b',
+    min: 5,
+    max: 9,
+}];
+
 const ASKED: Draft = Draft {
     cells: &[Bell(1), Bell(4), Bell(2), Bell(5), Bell(3)],
-    fitting: 1,
+    fitting: (1, 1),
     ..DOUBLES
 };
 
@@ -77,18 +89,47 @@ const TWO_PARTS: Draft = Draft {
     ..DOUBLES
 };
 
-const TWO_BOBS_ASKED: Draft = Draft {
-    length: 20,
+const ONE_BOB_IN_TWO_PARTS: Draft = Draft {
+    length: (20, 20),
+    parts: 2,
+    counts: ONE_BOB,
+    ..DOUBLES
+};
+
+const TWO_BOBS_IN_TWO_PARTS: Draft = Draft {
+    length: (20, 20),
     parts: 2,
     counts: TWO_BOBS,
     ..DOUBLES
 };
 
-const ONE_BOB_ASKED: Draft = Draft {
-    length: 20,
-    parts: 2,
-    counts: ONE_BOB,
+const FIVE_BOBS_OF_59_CHANGES: Draft = Draft {
+    length: (55, 59),
+    counts: FIVE_BOBS,
     ..DOUBLES
+};
+
+const FEW_ROWS: Draft = Draft {
+    cells: &[Run],
+    fitting: (0, 15),
+    ..DOUBLES
+};
+
+const NO_QUEENS: Draft = Draft {
+    cells: &[Bell(1), Bell(5), Bell(4), Bell(3), Bell(2)],
+    fitting: (0, 0),
+    ..DOUBLES
+};
+
+const MANY_ROUNDS: Draft = Draft {
+    cells: &[Bell(1), Bell(2), Bell(3), Bell(4), Bell(5)],
+    fitting: (51, 60),
+    ..DOUBLES
+};
+
+const MANY_ROUNDS_BUT_ONE: Draft = Draft {
+    fitting: (50, 60),
+    ..MANY_ROUNDS
 };
 
 const CHANGING_ONCE: Draft = Draft {
@@ -99,6 +140,25 @@ const CHANGING_ONCE: Draft = Draft {
 const CHANGING_TWICE: Draft = Draft {
     com: Some(Com { min: 2, max: 2 }),
     ..SPLICED
+};
+
+const CHANGING_THRICE: Draft = Draft {
+    com: Some(Com { min: 3, max: 9 }),
+    ..SPLICED
+};
+
+const NEVER_CHANGING: Draft = Draft {
+    com: Some(Com { min: 0, max: 0 }),
+    ..SPLICED
+};
+
+const NEVER_CHANGING_ALL_C: Draft = Draft {
+    method_counts: &[MethodCount {
+        letter: b'C',
+        min: 3,
+        max: 3,
+    }],
+    ..NEVER_CHANGING
 };
 
 fn changes_of(alloc: Global, stage: Stage, text: &[u8]) -> Result<Vec<Change>, Fail> {
@@ -121,16 +181,16 @@ fn query_of(alloc: Global, draft: &Draft) -> Result<Query, Fail> {
     if !draft.cells.is_empty() {
         patterns.push(Pattern {
             cells: draft.cells.to_vec(alloc)?,
-            min: draft.fitting,
-            max: draft.fitting,
+            min: draft.fitting.0,
+            max: draft.fitting.1,
         })?;
     }
     Ok(Query {
-        min: draft.length,
-        max: draft.length,
+        min: draft.length.0,
+        max: draft.length.1,
         parts: draft.parts,
         counts: draft.counts.to_vec(alloc)?,
-        method_counts: Vec::new(alloc),
+        method_counts: draft.method_counts.to_vec(alloc)?,
         patterns,
         com: draft.com,
     })
@@ -154,15 +214,29 @@ fn problem(alloc: Global, draft: &Draft) -> Result<Problem, Fail> {
     }
 }
 
+fn table(alloc: Global, problem: &Problem) -> Result<LeadTable, Fail>
+    ensures { IfOk result (λ leads. leads ≡ lead_table problem.now) }
+{
+    match LeadTable::new(alloc, problem) {
+        Ok(leads) => Ok(leads),
+        Err(_) => Err(Fail::from("there is memory")),
+    }
+}
+
+fn calling(alloc: Global, steps: &[u8]) -> Result<Calling, Fail>
+    ensures { IfOk result (λ calling. calling ≡ steps.now) }
+{
+    match Calling::new(steps.to_vec(alloc)?) {
+        Ok(calling) => Ok(calling),
+        Err(_) => Err(Fail::from("the calling is short")),
+    }
+}
+
 // Whether a calling meets the query, and whether it is kept.
-fn told(alloc: Global, draft: &Draft, steps: &[u8]) -> Result<(bool, bool), Fail> {
+fn judged(alloc: Global, draft: &Draft, steps: &[u8]) -> Result<(bool, bool), Fail> {
     let problem = problem(alloc, draft)?;
-    let Ok(leads) = LeadTable::new(alloc, &problem) else {
-        return Err(Fail::from("there is memory"));
-    };
-    let Ok(calling) = Calling::new(steps.to_vec(alloc)?) else {
-        return Err(Fail::from("the calling is short"));
-    };
+    let leads = table(alloc, &problem)?;
+    let calling = calling(alloc, steps)?;
     if !problem.has_steps(calling.steps()) {
         return Err(Fail::from("the steps are the problem's"));
     }
@@ -174,62 +248,78 @@ fn told(alloc: Global, draft: &Draft, steps: &[u8]) -> Result<(bool, bool), Fail
     }
 }
 
-const TOUCHES: [(&str, Draft, &[u8], bool, bool); 13] = [
-    (
+// A calling, whether it meets the query, and whether it is kept.
+#[derive(Clone, Copy)]
+struct Touch(&'static str, Draft, &'static [u8], bool, bool);
+
+const TOUCHES: [Touch; 13] = [
+    Touch(
         "the least rotation",
         DOUBLES,
         &[0, 1, 0, 1, 0, 1],
         true,
         true,
     ),
-    (
+    Touch(
         "another rotation",
         DOUBLES,
         &[1, 0, 1, 0, 1, 0],
         true,
         false,
     ),
-    ("too short", DOUBLES, &[1, 1], false, false),
-    (
+    Touch("too short", DOUBLES, &[1, 1], false, false),
+    Touch(
         "a row is asked for that the least rotation lacks",
         ASKED,
         &[0, 1, 0, 1, 0, 1],
         false,
         false,
     ),
-    ("and the other has", ASKED, &[1, 0, 1, 0, 1, 0], true, true),
-    ("three parts", THREE_PARTS, &[0, 1, 0, 1, 0, 1], true, true),
-    (
+    Touch("and the other has", ASKED, &[1, 0, 1, 0, 1, 0], true, true),
+    Touch("three parts", THREE_PARTS, &[0, 1, 0, 1, 0, 1], true, true),
+    Touch(
         "not two parts",
         TWO_PARTS,
         &[0, 1, 0, 1, 0, 1],
         false,
         false,
     ),
-    ("two bobs in two parts", TWO_BOBS_ASKED, &[1, 1], true, true),
-    ("one bob in each part", ONE_BOB_ASKED, &[1, 1], false, false),
-    (
+    Touch(
+        "two bobs in two parts",
+        TWO_BOBS_IN_TWO_PARTS,
+        &[1, 1],
+        true,
+        true,
+    ),
+    Touch(
+        "one bob in each part",
+        ONE_BOB_IN_TWO_PARTS,
+        &[1, 1],
+        false,
+        false,
+    ),
+    Touch(
         "one change of method",
         CHANGING_ONCE,
         &[0, 0, 1],
         true,
         true,
     ),
-    (
+    Touch(
         "from the later method",
         CHANGING_ONCE,
         &[1, 0, 0],
         true,
         false,
     ),
-    (
+    Touch(
         "the join is no change",
         CHANGING_TWICE,
         &[0, 0, 1],
         false,
         false,
     ),
-    (
+    Touch(
         "two changes of method",
         CHANGING_TWICE,
         &[0, 1, 0],
@@ -240,8 +330,8 @@ const TOUCHES: [(&str, Draft, &[u8], bool, bool); 13] = [
 
 #[test]
 fn touches(rt: HostRuntime) -> Result<(), Fail> {
-    for (name, draft, steps, met, kept) in TOUCHES {
-        if told(rt.alloc(), &draft, steps)? != (met, kept) {
+    for Touch(name, draft, steps, met, kept) in TOUCHES {
+        if judged(rt.alloc(), &draft, steps)? != (met, kept) {
             return Err(Fail::from(name));
         }
     }
@@ -269,14 +359,14 @@ const SHAPES: [(&str, &[Cell], i64); 8] = [
 ];
 
 // Whether exactly so many rows of the plain course fit the cells.
-fn course_has(alloc: Global, cells: &'static [Cell], fitting: i64) -> Result<bool, Fail> {
+fn course_has(alloc: Global, cells: &'static [Cell], number: i64) -> Result<bool, Fail> {
     let draft = Draft {
-        length: 40,
+        length: (40, 40),
         cells,
-        fitting,
+        fitting: (number, number),
         ..DOUBLES
     };
-    Ok(told(alloc, &draft, &[0, 0, 0, 0])?.0)
+    Ok(judged(alloc, &draft, &[0, 0, 0, 0])?.0)
 }
 
 #[test]
@@ -295,8 +385,174 @@ fn rows_that_fit(rt: HostRuntime) -> Result<(), Fail> {
 fn queries_that_turning_does_not_change(rt: HostRuntime) -> Result<(), Fail> {
     let alloc = rt.alloc();
     assert!(rt; turn_free(&query_of(alloc, &DOUBLES)?));
-    assert!(rt; turn_free(&query_of(alloc, &TWO_BOBS_ASKED)?));
+    assert!(rt; turn_free(&query_of(alloc, &TWO_BOBS_IN_TWO_PARTS)?));
     assert!(rt; !turn_free(&query_of(alloc, &ASKED)?));
     assert!(rt; !turn_free(&query_of(alloc, &CHANGING_ONCE)?));
+    Ok(())
+}
+
+// What a meter tells: of a node, of its child by the leads alone, of the child, and whether the child's touch
+// meets the counts.
+#[derive(Clone, Copy, PartialEq, Eq)]
+struct Told(Option<Hopeless>, bool, Option<Hopeless>, bool);
+
+// Adds leads to a meter and takes the last one back: what it tells, and what of the node that is left.
+fn walked(
+    alloc: Global,
+    draft: &Draft,
+    node: &[u8],
+    step: u8,
+) -> Result<(Told, Option<Hopeless>), Fail> {
+    let problem = problem(alloc, draft)?;
+    let leads = table(alloc, &problem)?;
+    let calling = calling(alloc, node)?;
+    if !problem.has_steps(node) || step >= leads.count() {
+        return Err(Fail::from("the steps are the problem's"));
+    }
+    let Ok(mut meter) = Meter::new(alloc, &problem) else {
+        return Err(Fail::from("there is memory"));
+    };
+    if node.len() >= 1024 {
+        return Err(Fail::from("the node is short"));
+    }
+    lead_to(alloc, &mut meter, &leads, node)?;
+    let head = leads.head_after(&calling);
+    let before = meter.hopeless();
+    let by_leads = meter.is_hopeless_with(step);
+    meter.add_lead(&leads, step, &head);
+    let child = meter.hopeless();
+    let counts = meter.meets_counts();
+    meter.take_back(&leads, step, &head);
+    Ok((Told(before, by_leads, child, counts), meter.hopeless()))
+}
+
+// Leads a fresh meter to a node.
+fn lead_to(alloc: Global, meter: &mut Meter, leads: &LeadTable, node: &[u8]) -> Result<(), Fail>
+    requires table { leads.now ≡ lead_table meter.old.problem }
+    requires fresh { meter.old.node ≡ [] }
+    requires steps { HasSteps meter.old.problem node.now }
+    requires few { length node.now < 1024 }
+    ensures { IfOk result (λ _. meter.new ≡ record { problem = meter.old.problem; node = node.now }) }
+{
+    for index in 0..node.len() {
+        let front = calling(alloc, &node[..index])?;
+        meter.add_lead(leads, node[index], &leads.head_after(&front));
+    }
+    Ok(())
+}
+
+// A node, a step, and what a meter tells.
+#[derive(Clone, Copy)]
+struct Metered(&'static str, Draft, &'static [u8], u8, Told);
+
+const METERED: [Metered; 14] = [
+    Metered(
+        "one bob in two parts is two",
+        ONE_BOB_IN_TWO_PARTS,
+        &[],
+        1,
+        Told(None, true, Some(Hopeless::TooMany), false),
+    ),
+    Metered(
+        "two bobs in two parts",
+        TWO_BOBS_IN_TWO_PARTS,
+        &[],
+        1,
+        Told(None, false, None, true),
+    ),
+    Metered(
+        "no bob in two parts",
+        TWO_BOBS_IN_TWO_PARTS,
+        &[],
+        0,
+        Told(None, true, Some(Hopeless::TooFew), false),
+    ),
+    Metered(
+        "five leads that are left are rounded down",
+        FIVE_BOBS_OF_59_CHANGES,
+        &[],
+        0,
+        Told(None, true, Some(Hopeless::TooFew), false),
+    ),
+    Metered(
+        "and four with the bob",
+        FIVE_BOBS_OF_59_CHANGES,
+        &[],
+        1,
+        Told(None, false, None, false),
+    ),
+    Metered(
+        "more rows than a pattern allows",
+        FEW_ROWS,
+        &[0],
+        0,
+        Told(None, false, Some(Hopeless::TooMany), true),
+    ),
+    Metered(
+        "a row of the second lead",
+        NO_QUEENS,
+        &[0],
+        0,
+        Told(None, false, Some(Hopeless::TooMany), true),
+    ),
+    Metered(
+        "one row too few is left",
+        MANY_ROUNDS,
+        &[],
+        0,
+        Told(None, false, Some(Hopeless::TooFew), true),
+    ),
+    Metered(
+        "as many rows are left",
+        MANY_ROUNDS_BUT_ONE,
+        &[],
+        0,
+        Told(None, false, None, true),
+    ),
+    Metered(
+        "two leads left are no three changes",
+        CHANGING_THRICE,
+        &[],
+        0,
+        Told(None, true, Some(Hopeless::TooFew), true),
+    ),
+    Metered(
+        "two leads left are two changes",
+        CHANGING_TWICE,
+        &[],
+        0,
+        Told(None, false, None, true),
+    ),
+    Metered(
+        "the join is no change",
+        CHANGING_ONCE,
+        &[0, 0],
+        1,
+        Told(None, false, None, true),
+    ),
+    Metered(
+        "another change",
+        CHANGING_ONCE,
+        &[0, 1],
+        0,
+        Told(None, true, Some(Hopeless::TooMany), true),
+    ),
+    Metered(
+        "too many before too few",
+        NEVER_CHANGING_ALL_C,
+        &[0],
+        1,
+        Told(Some(Hopeless::TooFew), true, Some(Hopeless::TooMany), false),
+    ),
+];
+
+#[test]
+fn meters(rt: HostRuntime) -> Result<(), Fail> {
+    for Metered(name, draft, node, step, told) in METERED {
+        let (seen, left) = walked(rt.alloc(), &draft, node, step)?;
+        if seen != told || left != told.0 {
+            return Err(Fail::from(name));
+        }
+    }
     Ok(())
 }

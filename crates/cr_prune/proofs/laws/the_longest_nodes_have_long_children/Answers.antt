@@ -11,4 +11,4 @@ returns-clause-long c = child_long
 pub returns-clause-dies : goal.returns-clause-dies
 returns-clause-dies c p most node step sound valid many inside =
     let next = child node step in
-    ap (λ b. b || (is_self_false p next || (is_far p most next || (is_hopeless_by_leads p next || is_turned_back p next)))) (child_long p node step sound valid many inside)
+    ap (λ b. b || (is_self_false p next || (is_hopeless_by_leads p next || (is_turned_back p next || is_far p most next)))) (child_long p node step sound valid many inside)

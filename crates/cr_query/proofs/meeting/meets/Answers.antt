@@ -1,17 +1,18 @@
-use Rattle.std.proofs.Common.{sym, ◌∙◌}
+use Rattle.std.proofs.Common.{refl, sym, ◌∙◌}
 use Rattle.std.proofs.lemmas.Bool.{false≢true}
 use Rattle.std.proofs.lemmas.Result.{IfOk-weaker}
 use Rattle.cr_leads.specs.Tables.{leads_known}
-use Rattle.cr_query.specs.Meeting.{by_leads}
+use Rattle.cr_model.specs.Callings.{rows_of}
+use Rattle.cr_query.specs.Meeting.{by_leads, meets_both}
 use Rattle.cr_query.proofs.Halves.{both_halves, stage_rows}
 use Rattle.cr_query.proofs.meeting.meets.Goals as goal
 
-pub ring-requires : goal.ring-requires
-ring-requires c = leads_known c.args.leads.now c.args.problem.now c.args.calling.now c.requires.table c.requires.steps
+pub rows-requires : goal.rows-requires
+rows-requires c = leads_known c.args.leads.now c.args.problem.now c.args.calling.now c.requires.table c.requires.steps
 
 pub meets_by_rows-requires : goal.meets_by_rows-requires
 meets_by_rows-requires c =
-    stage_rows c.args.leads.now c.args.problem.now c.deref.result.now _ c.requires.table c.deref.ensures.value c.in_ok-rung.ensures.rows
+    stage_rows c.args.leads.now c.args.problem.now c.deref.result.now _ c.requires.table c.deref.ensures.value c.in_ok-rows.ensures.rows
 
 pub returns-then-not-meets_by_leads : goal.returns-then-not-meets_by_leads
 returns-then-not-meets_by_leads c = (
@@ -19,10 +20,16 @@ returns-then-not-meets_by_leads c = (
   λ meets. absurd (false≢true (sym c.if-not-meets_by_leads.true ∙ c.meets_by_leads.ensures.1 (by_leads c.args.problem.now c.args.calling.now meets))),
 )
 
+pub returns-then-asks_nothing_of_rows : goal.returns-then-asks_nothing_of_rows
+returns-then-asks_nothing_of_rows c = (
+  λ _. meets_both c.args.problem.now c.args.calling.now (c.meets_by_leads.ensures.0 c.if-not-meets_by_leads.false) (c.asks_nothing_of_rows.ensures c.if-asks_nothing_of_rows.true (rows_of c.args.problem.now c.args.calling.now)),
+  λ _. refl,
+)
+
 pub returns : goal.returns
 returns c =
     IfOk-weaker c.meets_by_rows.result _ _
     (λ met told. both_halves c.args.problem.now c.args.calling.now c.deref.result.now met
-    (c.deref.ensures.value ∙ (c.in_ok-rung.ensures.is c.args.problem.now c.requires.table).rows)
+    (c.deref.ensures.value ∙ c.in_ok-rows.ensures.is c.args.problem.now c.requires.table)
     (c.meets_by_leads.ensures.0 c.if-not-meets_by_leads.false) told)
     c.meets_by_rows.ensures

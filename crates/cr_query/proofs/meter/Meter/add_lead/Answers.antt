@@ -1,11 +1,11 @@
-use Rattle.std.proofs.Common.{◌≡◌, ◌<◌, ◌≤◌, ◌+◌, ◌-◌, [], ◌∷◌, ◌++◌, length, map, take, drop, All, sym, ap, ap₂, ◌∙◌, subst, arith}
+use Rattle.std.proofs.Common.{◌≡◌, ◌<◌, length, map, All, sym, ap, ap₂, ◌∙◌, subst, arith}
 use Rattle.std.proofs.lemmas.List.{length-map}
 use Rattle.cr_leads.specs.Tables.{lead_table, leads_counted}
-use Rattle.cr_model.specs.Callings.{rows_of, head_of}
+use Rattle.cr_model.specs.Callings.{head_of}
 use Rattle.cr_model.specs.Sizes.{child}
-use Rattle.cr_query.specs.Gauges.{raised, lowered, rows_more, rows_fewer}
-use Rattle.cr_query.specs.Meters.{MeterParts, parent, change_between, IsCounted}
-use Rattle.cr_query.proofs.Metering.{kinds_counted, known_kinds, known_last, known_front, head_long, shapes_staged, lead_staged, one_more, one_fewer, enough, written, recounted, small_counts}
+use Rattle.cr_query.specs.Gauges.{raised, rows_more}
+use Rattle.cr_query.specs.Meters.{MeterParts, change_between}
+use Rattle.cr_query.proofs.Metering.{kinds_counted, known_kinds, head_long, shapes_staged, lead_staged, one_more, written, recounted, small_counts}
 use Rattle.cr_query.proofs.meter.Meter.add_lead.Goals as goal
 
 pub kind_at-kind-requires : goal.kind_at-kind-requires
@@ -59,13 +59,13 @@ invariant_of-self c =
     let room : length node < 1024 = subst (λ (meter : MeterParts). length meter.node < 1024) (sym c.self.view_is) c.requires.few in
     let staged = subst (λ n. All (λ row. length row ≡ n) lead) long (lead_staged p c.args.from.now c.args.leads.now lead table c.rows_of.ensures.lead long) in
     let counted = one_more c.ringing_on.ensures.lengths c.joined_callings_multiply.ensures.rows p node m.kinds.items m.marks.items m.letters.items m.patterns.items m.length m.changes
-        c.args.step kind c.args.from.now lead c.change_to.result c.self.invariant.0.sound kinds (c.kind_at-kind.ensures p (c.deref.ensures.value ∙ kinds)) from (c.rows_of.ensures.of_problem p table) staged change_is
-        c.self.invariant.1 inside room in
+    c.args.step kind c.args.from.now lead c.change_to.result c.self.invariant.0.sound kinds (c.kind_at-kind.ensures p (c.deref.ensures.value ∙ kinds)) from (c.rows_of.ensures.of_problem p table) staged change_is
+    c.self.invariant.1 inside room in
     let marks : c.raise.new.gauges ≡ map (raised kind.mark) m.marks.items = c.raise.ensures ∙ ap (map (raised kind.mark)) c.deref_mut.ensures.value in
     let letters : c.raise-2.new.gauges ≡ map (raised kind.letter) m.letters.items = c.raise-2.ensures ∙ ap (map (raised kind.letter)) c.deref_mut-2.ensures.value in
     let patterns : c.raise_rows.new.fittings ≡ map (rows_more c.args.from.now lead) m.patterns.items = c.raise_rows.ensures ∙ ap (map (rows_more c.args.from.now lead)) c.deref_mut-3.ensures.value in
     let again = recounted p (child node c.args.step) c.put.new.node.items _ _ _ _ _ _ _ _ counted c.put.ensures.items
-        (written m.marks.len m.marks.items c.raise.new.gauges m.marks.ok.0 (ap length marks ∙ length-map m.marks.items (raised kind.mark)) ∙ marks)
-        (written m.letters.len m.letters.items c.raise-2.new.gauges m.letters.ok.0 (ap length letters ∙ length-map m.letters.items (raised kind.letter)) ∙ letters)
-        (written m.patterns.len m.patterns.items c.raise_rows.new.fittings m.patterns.ok.0 (ap length patterns ∙ length-map m.patterns.items (rows_more c.args.from.now lead)) ∙ patterns) in
+    (written m.marks.len m.marks.items c.raise.new.gauges m.marks.ok.0 (ap length marks ∙ length-map m.marks.items (raised kind.mark)) ∙ marks)
+    (written m.letters.len m.letters.items c.raise-2.new.gauges m.letters.ok.0 (ap length letters ∙ length-map m.letters.items (raised kind.letter)) ∙ letters)
+    (written m.patterns.len m.patterns.items c.raise_rows.new.fittings m.patterns.ok.0 (ap length patterns ∙ length-map m.patterns.items (rows_more c.args.from.now lead)) ∙ patterns) in
     (c.self.invariant.0, again, c.self.invariant.2, small_counts p c.put.new.node.items _ _ _ _ _ c.self.invariant.0.sound again, omega (arith, c.put.ensures.room, c.self.invariant.4))

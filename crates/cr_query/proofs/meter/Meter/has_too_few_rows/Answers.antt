@@ -1,10 +1,10 @@
-use Rattle.std.proofs.Common.{◌≡◌, ◌-◌, ap, ap₂, ◌∙◌, sym}
+use Rattle.std.proofs.Common.{◌≡◌, ◌-◌, ap, ap₂, ◌∙◌}
 use Rattle.std.specs.List.{list_any}
 use Rattle.cr_model.specs.Callings.{length_of}
 use Rattle.cr_model.specs.Queries.{cap}
 use Rattle.cr_query.specs.Gauges.{has_fewer_rows}
 use Rattle.cr_query.specs.Meters.{MeterParts, fitted, has_too_few_rows}
-use Rattle.cr_query.proofs.Metering.{any_mapped}
+use Rattle.cr_query.proofs.Tellings.{any_mapped}
 use Rattle.cr_query.proofs.meter.Meter.has_too_few_rows.Goals as goal
 
 pub returns : goal.returns

@@ -27,8 +27,8 @@ returns c =
     c.is_hopeless.ensures
     ∙ ap₂ (λ marks letters. too_many_leads m.numbers marks letters (Some kind) (m.changes + change) || too_few_leads m.numbers marks letters (Some kind) (m.changes + change) left) c.deref-4.ensures.value c.deref-5.ensures.value
     ∙ hopeless_told m.problem m.steps.items m.kinds.items m.marks.items m.letters.items m.patterns.items m.length m.changes c.args.step kind kinds c.self.invariant.1
-        (c.kind_at-kind.ensures m.problem (c.deref.ensures.value ∙ kinds))
-        c.ringing_on.ensures.lengths m.numbers c.self.invariant.0.found change left
-        (c.change_to.ensures.is ∙ ap₂ (λ ks node. change_between ks node kind.method) c.deref-2.ensures.value c.deref-3.ensures.value)
-        c.leads_left-left.ensures.is
+    (c.kind_at-kind.ensures m.problem (c.deref.ensures.value ∙ kinds))
+    c.ringing_on.ensures.lengths m.numbers c.self.invariant.0.found change left
+    (c.change_to.ensures.is ∙ ap₂ (λ ks node. change_between ks node kind.method) c.deref-2.ensures.value c.deref-3.ensures.value)
+    c.leads_left-left.ensures.is
     ∙ ap (λ (meter : MeterParts). is_hopeless_by_leads meter.problem (child meter.node c.args.step)) c.self.view_is

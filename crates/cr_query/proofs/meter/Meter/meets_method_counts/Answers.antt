@@ -1,7 +1,5 @@
-use Rattle.std.proofs.Common.{◌↔◌, ◌*◌, All, IsTrue, sym, subst, ◌∙◌}
+use Rattle.std.proofs.Common.{◌↔◌, IsTrue, subst, ◌∙◌}
 use Rattle.cr_model.specs.OneTurn.{touch_of}
-use Rattle.cr_model.specs.Queries.{IsWithin}
-use Rattle.cr_query.specs.declared.gauges.Gauge.{Gauge}
 use Rattle.cr_query.specs.Meeting.{MeetsMethodCounts}
 use Rattle.cr_query.specs.Meters.{MeterParts}
 use Rattle.cr_query.proofs.Metering.{letters_met}

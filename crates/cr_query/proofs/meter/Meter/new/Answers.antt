@@ -1,8 +1,8 @@
-use Rattle.std.proofs.Common.{◌≡◌, ◌≤◌, [], ap, ap₂, map, ◌∙◌, sym, subst, arith}
+use Rattle.std.proofs.Common.{◌≡◌, ap, ap₂, map, ◌∙◌, sym, subst, arith}
 use Rattle.cr_model.specs.Problems.{ProblemParts, QueryParts}
 use Rattle.cr_model.specs.Sound.{IsSound}
 use Rattle.cr_query.specs.Meters.{mark_gauge, letter_gauge, fitting_of, kinds_of, HasNumbers, IsCounted}
-use Rattle.cr_query.proofs.Metering.{none_counted, recounted, small_counts}
+use Rattle.cr_query.proofs.Metering.{none_counted, small_counts}
 use Rattle.cr_query.proofs.meter.Meter.new.Goals as goal
 
 pub invariant_of-result : goal.invariant_of-result
@@ -17,8 +17,7 @@ invariant_of-result c =
     c.in_ok-patterns.ensures ∙ ap₂ (λ stage list. map (fitting_of stage 0) list) (c.stage.ensures.is ∙ ap (λ (q : ProblemParts). q.stage) (sym same)) (c.patterns_of.ensures ∙ ap (λ (q : QueryParts). q.patterns) query) in
     let none = none_counted p c.in_ok-marks.marks.items c.in_ok-letters.letters.items c.in_ok-patterns.patterns.items marks letters patterns in
     let counted : IsCounted p c.in_ok-steps.steps.items c.in_ok-marks.marks.items c.in_ok-letters.letters.items c.in_ok-patterns.patterns.items 0 0 =
-    subst (λ node. IsCounted p node c.in_ok-marks.marks.items c.in_ok-letters.letters.items c.in_ok-patterns.patterns.items 0 0) (sym c.in_ok-steps.ensures.items) none in
-    (
+    subst (λ node. IsCounted p node c.in_ok-marks.marks.items c.in_ok-letters.letters.items c.in_ok-patterns.patterns.items 0 0) (sym c.in_ok-steps.ensures.items) none in (
       record {
         sound = sound;
         steps = c.in_ok-kinds.ensures ∙ ap kinds_of (sym same);

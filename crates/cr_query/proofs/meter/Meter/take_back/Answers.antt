@@ -1,11 +1,11 @@
-use Rattle.std.proofs.Common.{◌≡◌, ◌<◌, ◌≤◌, ◌+◌, ◌-◌, [], ◌∷◌, ◌++◌, length, map, take, drop, All, sym, ap, ap₂, ◌∙◌, subst, arith}
+use Rattle.std.proofs.Common.{◌≡◌, length, map, All, sym, ap, ap₂, ◌∙◌, subst, arith}
 use Rattle.std.proofs.lemmas.List.{length-map}
 use Rattle.cr_leads.specs.Tables.{lead_table, leads_counted}
-use Rattle.cr_model.specs.Callings.{rows_of, head_of}
+use Rattle.cr_model.specs.Callings.{head_of}
 use Rattle.cr_model.specs.Sizes.{child}
-use Rattle.cr_query.specs.Gauges.{raised, lowered, rows_more, rows_fewer}
+use Rattle.cr_query.specs.Gauges.{lowered, rows_fewer}
 use Rattle.cr_query.specs.Meters.{MeterParts, parent, change_between, IsCounted}
-use Rattle.cr_query.proofs.Metering.{kinds_counted, known_kinds, known_last, known_front, head_long, shapes_staged, lead_staged, one_more, one_fewer, enough, written, recounted, small_counts}
+use Rattle.cr_query.proofs.Metering.{kinds_counted, known_kinds, known_last, known_front, head_long, shapes_staged, lead_staged, one_fewer, enough, written, recounted, small_counts}
 use Rattle.cr_query.proofs.meter.Meter.take_back.Goals as goal
 
 pub kind_at-kind-requires : goal.kind_at-kind-requires
@@ -63,7 +63,7 @@ overflow_sub-self-2 c =
     let change_is : c.change_to.result ≡ change_between m.kinds.items node kind.method = c.change_to.ensures.is ∙ ap₂ (λ ks steps. change_between ks steps kind.method) c.deref-2.ensures.value (c.deref-3.ensures.value ∙ c.cut.ensures.items) in
     let staged = subst (λ n. All (λ row. length row ≡ n) lead) long (lead_staged p c.args.from.now c.args.leads.now lead table c.rows_of.ensures.lead long) in
     (enough c.ringing_on.ensures.lengths c.joined_callings_multiply.ensures.rows p node m.kinds.items m.marks.items m.letters.items m.patterns.items m.length m.changes
-        c.args.step kind c.args.from.now lead c.change_to.result c.self.invariant.0.sound kinds (c.kind_at-kind.ensures p (c.deref.ensures.value ∙ kinds)) from (c.rows_of.ensures.of_problem p table) staged change_is counted).1
+    c.args.step kind c.args.from.now lead c.change_to.result c.self.invariant.0.sound kinds (c.kind_at-kind.ensures p (c.deref.ensures.value ∙ kinds)) from (c.rows_of.ensures.of_problem p table) staged change_is counted).1
 
 pub invariant_of-self : goal.invariant_of-self
 invariant_of-self c =
@@ -81,12 +81,12 @@ invariant_of-self c =
     let change_is : c.change_to.result ≡ change_between m.kinds.items node kind.method = c.change_to.ensures.is ∙ ap₂ (λ ks steps. change_between ks steps kind.method) c.deref-2.ensures.value (c.deref-3.ensures.value ∙ c.cut.ensures.items) in
     let staged = subst (λ n. All (λ row. length row ≡ n) lead) long (lead_staged p c.args.from.now c.args.leads.now lead table c.rows_of.ensures.lead long) in
     let fewer = one_fewer c.ringing_on.ensures.lengths c.joined_callings_multiply.ensures.rows p node m.kinds.items m.marks.items m.letters.items m.patterns.items m.length m.changes
-        c.args.step kind c.args.from.now lead c.change_to.result c.self.invariant.0.sound kinds (c.kind_at-kind.ensures p (c.deref.ensures.value ∙ kinds)) from (c.rows_of.ensures.of_problem p table) staged change_is counted in
+    c.args.step kind c.args.from.now lead c.change_to.result c.self.invariant.0.sound kinds (c.kind_at-kind.ensures p (c.deref.ensures.value ∙ kinds)) from (c.rows_of.ensures.of_problem p table) staged change_is counted in
     let marks : c.lower-2.new.gauges ≡ map (lowered kind.mark) m.marks.items = c.lower-2.ensures ∙ ap (map (lowered kind.mark)) c.deref_mut-3.ensures.value in
     let letters : c.lower.new.gauges ≡ map (lowered kind.letter) m.letters.items = c.lower.ensures ∙ ap (map (lowered kind.letter)) c.deref_mut-2.ensures.value in
     let patterns : c.lower_rows.new.fittings ≡ map (rows_fewer c.args.from.now lead) m.patterns.items = c.lower_rows.ensures ∙ ap (map (rows_fewer c.args.from.now lead)) c.deref_mut.ensures.value in
     let again = recounted p node c.cut.new.node.items _ _ _ _ _ _ _ _ fewer c.cut.ensures.items
-        (written m.marks.len m.marks.items c.lower-2.new.gauges m.marks.ok.0 (ap length marks ∙ length-map m.marks.items (lowered kind.mark)) ∙ marks)
-        (written m.letters.len m.letters.items c.lower.new.gauges m.letters.ok.0 (ap length letters ∙ length-map m.letters.items (lowered kind.letter)) ∙ letters)
-        (written m.patterns.len m.patterns.items c.lower_rows.new.fittings m.patterns.ok.0 (ap length patterns ∙ length-map m.patterns.items (rows_fewer c.args.from.now lead)) ∙ patterns) in
+    (written m.marks.len m.marks.items c.lower-2.new.gauges m.marks.ok.0 (ap length marks ∙ length-map m.marks.items (lowered kind.mark)) ∙ marks)
+    (written m.letters.len m.letters.items c.lower.new.gauges m.letters.ok.0 (ap length letters ∙ length-map m.letters.items (lowered kind.letter)) ∙ letters)
+    (written m.patterns.len m.patterns.items c.lower_rows.new.fittings m.patterns.ok.0 (ap length patterns ∙ length-map m.patterns.items (rows_fewer c.args.from.now lead)) ∙ patterns) in
     (c.self.invariant.0, again, c.self.invariant.2, small_counts p c.cut.new.node.items _ _ _ _ _ c.self.invariant.0.sound again, omega (arith, c.cut.ensures.room, c.self.invariant.4))

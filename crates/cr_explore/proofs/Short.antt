@@ -1,0 +1,66 @@
+-- The touch of a valid node has few leads.
+use Rattle.std.proofs.Common.{◌≡◌, ℕ, zero, suc, ◌+◌, ◌*◌, ◌<◌, ◌≤◌, List, ◌++◌, length, take, drop, take-append-drop, sym, ap, ◌∙◌, arith, append-nil, append_assoc, length-append}
+use Rattle.std.proofs.Math.Nat.{mul_comm, mul_assoc, mul-le-mul_left, mul-div-le}
+use Rattle.std.proofs.lemmas.Nat.{le-div}
+use Rattle.cr_model.specs.Problems.{ProblemParts}
+use Rattle.std.proofs.lemmas.List.Elements.{All-take, All-append}
+use Rattle.cr_model.specs.Callings.{HasSteps, length_of, shortest}
+use Rattle.cr_model.specs.OneTurn.{touch_of}
+use Rattle.cr_model.proofs.Ringing.{lengths_on}
+use Rattle.cr_model.specs.Limits.{most_leads}
+use Rattle.cr_model.specs.Queries.{cap, repeated}
+use Rattle.cr_model.specs.Nodes.{IsValid}
+use Rattle.cr_model.specs.Sound.{IsSound, sound_depth}
+use Rattle.cr_model.specs.Dead.{parts_of}
+use Rattle.cr_model.proofs.Below.{words, some_parts, some_shortest, shortest_leads}
+
+words_steps : (a number : ℕ) (word : List ℕ) → length (words a number word) ≡ number * length word
+words_steps a zero word = omega arith
+words_steps a (suc number) word = omega (arith, length-append word (words (a + 1) number word), words_steps (a + 1) number word)
+
+-- so many equal words have so many times the steps
+pub steps_in_parts : (number : ℕ) (word : List ℕ) → length (repeated number word) ≡ number * length word
+steps_in_parts number word = words_steps 0 number word
+
+words_more : (a number : ℕ) (word : List ℕ) → words a number word ++ word ≡ words a (suc number) word
+words_more a zero word = sym (append-nil word)
+words_more a (suc number) word = append_assoc word (words (a + 1) number word) word ∙ ap (λ rest. word ++ rest) (words_more (a + 1) number word)
+
+-- one more
+pub repeated_more : (number : ℕ) (word : List ℕ) → repeated (number + 1) word ≡ repeated number word ++ word
+repeated_more number word = let one : number + 1 ≡ suc number = omega arith in ap (λ n. repeated n word) one ∙ sym (words_more 0 number word)
+
+module _ (p : ProblemParts) (node : List ℕ) (sound : IsSound p) (valid : IsValid p node) where
+  -- the touch of a valid node is no longer than a touch may be
+  few_changes : parts_of p * length_of p node ≤ cap p
+  few_changes =
+      let one = mul-le-mul_left (parts_of p) valid.short in
+      omega (arith, one, mul-div-le (cap p) (parts_of p))
+
+  -- so it has few leads
+  pub touch_is_short : parts_of p * length node ≤ most_leads
+  touch_is_short =
+      let one = mul-le-mul_left (parts_of p) (shortest_leads p node valid.steps) in
+      let whole : parts_of p * length node * shortest p ≤ cap p = omega (arith, one, mul_assoc (parts_of p) (length node) (shortest p), few_changes) in
+      omega (arith, le-div (parts_of p * length node) (cap p) (shortest p) (some_shortest p sound) whole, sound_depth p sound)
+
+  -- and the node has no more
+  pub node_is_short : length node ≤ most_leads
+  node_is_short =
+      let some = mul-le-mul_left (length node) (some_parts p sound) in
+      omega (arith, some, mul_comm (parts_of p) (length node), touch_is_short)
+
+-- the first steps of a valid node are a valid node
+pub front_is_valid : (p : ProblemParts) (node : List ℕ) (number : ℕ) → IsValid p node → IsValid p (take number node)
+front_is_valid p node number valid = record {
+  steps = All-take (λ step. step < length p.leads) number node valid.steps;
+  short = omega (arith, valid.short, ap (length_of p) (take-append-drop number node), lengths_on p (take number node) (drop number node));
+}
+
+-- so many words have the steps of one
+words_have_steps : (p : ProblemParts) (a number : ℕ) (word : List ℕ) → HasSteps p word → HasSteps p (words a number word)
+words_have_steps p a zero word steps = λ k d inside. absurd (omega arith)
+words_have_steps p a (suc number) word steps = All-append (λ step. step < length p.leads) word (words (a + 1) number word) steps (words_have_steps p (a + 1) number word steps)
+
+pub touch_has_steps : (p : ProblemParts) (node : List ℕ) → HasSteps p node → HasSteps p (touch_of p node)
+touch_has_steps p node steps = words_have_steps p 0 (parts_of p) node steps

@@ -1,0 +1,42 @@
+-- A search so far, told by where it stands, and turns.
+use Rattle.std.proofs.Common.{◌≡◌, ℕ, ◌+◌, ◌≤◌, List, [], ◌++◌, length, take_all, reverse, sym, ap, ap₂, ◌∙◌, arith}
+use Rattle.cr_model.specs.Problems.{ProblemParts}
+use Rattle.cr_model.specs.OneTurn.{touch_found}
+use Rattle.cr_model.specs.Sizes.{live_children}
+use Rattle.cr_explore.specs.declared.search.Place.{Place}
+use Rattle.cr_explore.specs.Stacks.{live_from, left_below, stack_of, IsTaken, IsEnded}
+use Rattle.cr_explore.specs.Turns.{Searched, after_turns}
+use Rattle.cr_explore.proofs.Live.{all_live}
+use Rattle.cr_explore.proofs.Stacks.{stack_tried, below_base}
+use Rattle.cr_explore.proofs.Turning.{no_turn, turn_more, turns_end}
+
+-- a search so far, with the nodes of its stack
+abbrev pub so_far : List (List ℕ) → List (List ℕ) → ℕ → Searched
+so_far found rest used = record { found = found; rest = rest; used = used }
+
+module _ (p : ProblemParts) (most : ℕ) (job : List (List ℕ)) where
+  -- before the first turn
+  pub starts : (found : List (List ℕ)) (base step : ℕ) (node : List ℕ) → found ≡ [] → base ≡ length node → step ≡ length p.leads
+      → so_far found (stack_of p most job (record { left = length job; base = base; next = step }) node) 0 ≡ after_turns p most job 0
+  starts found base step node none here all =
+      let place : Place = record { left = length job; base = base; next = step } in
+      let whole : stack_of p most job place node ≡ job = stack_tried p most job place node all ∙ below_base p most job place node here ∙ take_all (length job) job (omega arith) in
+      ap₂ (λ f r. so_far f r 0) none whole ∙ sym (no_turn p most job)
+
+  -- one turn more
+  pub goes_on : (before : Place) (from : List ℕ) (after : Place) (to : List ℕ) (found more : List (List ℕ)) (used : ℕ) → IsTaken p most job before from after to
+      → more ≡ found ++ touch_found p to → so_far found (stack_of p most job before from) used ≡ after_turns p most job used
+      → so_far more (stack_of p most job after to) (used + 1) ≡ after_turns p most job (used + 1)
+  goes_on before from after to found more used taken finds h =
+      let all : stack_of p most job after to ≡ left_below p most job after to ++ reverse (live_children p most to) =
+      ap (λ step. left_below p most job after to ++ reverse (live_from p most to step)) taken.next ∙ ap (λ nodes. left_below p most job after to ++ reverse nodes) (all_live p most to) in
+      ap₂ (λ f r. so_far f r (used + 1)) finds all
+      ∙ turn_more p most job used found (left_below p most job after to) to used (ap (λ r. so_far found r used) (sym taken.last) ∙ h)
+
+  -- where nothing is left
+  pub ends : (before : Place) (from : List ℕ) (after : Place) (to : List ℕ) (found : List (List ℕ)) (used number : ℕ) → IsEnded p most job before from after to → used ≤ number
+      → so_far found (stack_of p most job before from) used ≡ after_turns p most job used
+      → so_far found (stack_of p most job after to) used ≡ after_turns p most job number
+  ends before from after to found used number ended few h =
+      ap (λ r. so_far found r used) ended.now
+      ∙ turns_end p most job used number found used few (ap (λ r. so_far found r used) (sym ended.first) ∙ h)

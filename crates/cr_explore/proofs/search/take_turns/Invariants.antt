@@ -1,0 +1,18 @@
+use Rattle.std.proofs.Common.{◌≡◌, ◌≤◌, ◌-◌, length}
+use Rattle.cr_model.specs.Sizes.{most_rows}
+use Rattle.cr_explore.specs.Stacks.{stack_of, IsPlace}
+use Rattle.cr_explore.specs.Turns.{after_turns}
+use Rattle.cr_explore.proofs.search.take_turns.Given as goal
+
+abbrev pub invariant-loop-used : goal.invariant-loop-used
+invariant-loop-used g l = record {
+  few : l.used ≤ l.turns;
+  problem : g.P.Path.problem_of l.path ≡ g.P.Path.problem_of l.initial.path;
+  place : IsPlace (g.P.Path.problem_of l.path) l.place (g.P.Path.node_of l.path);
+  left : l.place.left ≤ length l.job;
+  so_far : record { found = l.found.items; rest = stack_of (g.P.Path.problem_of l.initial.path) most_rows l.job l.place (g.P.Path.node_of l.path); used = l.used }
+      ≡ after_turns (g.P.Path.problem_of l.initial.path) most_rows l.job l.used;
+}
+
+abbrev pub decreases-loop-used : goal.decreases-loop-used
+decreases-loop-used g l = l.turns - l.used

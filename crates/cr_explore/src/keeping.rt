@@ -1,0 +1,86 @@
+//! Whether the touch of a walk's node is kept.
+
+ghost use Rattle.std.specs.Prelude.{◌≡◌, ◌↔◌, ◌≤◌, true, IsTrue, IfOk};
+ghost use Rattle.cr_leads.specs.Tables.{lead_table};
+ghost use Rattle.cr_model.specs.Callings.{rows_of, length_of, AllDiffer};
+ghost use Rattle.cr_model.specs.Dead.{turn_free};
+ghost use Rattle.cr_model.specs.Nodes.{IsValid};
+ghost use Rattle.cr_model.specs.OneTurn.{touch_of};
+ghost use Rattle.cr_model.specs.Queries.{cap};
+ghost use Rattle.cr_model.specs.Touches.{Kept};
+ghost use Rattle.cr_model.specs.Turning.{IsLeastRotation};
+ghost use Rattle.cr_query.specs.Meeting.{MeetsCounts, MeetsMethodCounts};
+ghost use Rattle.cr_explore.specs.Keeping.{MayBeKept};
+
+use crate::homes::{comes_home, is_long_enough};
+use crate::touches::{parts_of, touch_of};
+use cr_leads::LeadTable;
+use cr_model::Problem;
+use cr_model::laws::a_test_decides_what_is_true;
+use cr_prune::Walk;
+use cr_query::laws::a_wanted_calling_is_kept_where_its_part_is_least;
+use cr_query::{is_kept, turn_free};
+use cr_row::NoMemory;
+use std::alloc::Global;
+
+/// Whether the touch of a walk's node is kept. Where the node does not come home, or its touch is too short, misses a
+/// count or is not the least of its rotations, nothing is rung; nor is it in one part, where all rotations of a touch
+/// meet the query or none. Err where no memory is left.
+pub fn is_touch_kept(
+    alloc: Global,
+    problem: &Problem,
+    leads: &LeadTable,
+    walk: &Walk,
+) -> Result<bool, NoMemory>
+    requires same { walk.now.problem ≡ problem.now }
+    requires table { leads.now ≡ lead_table problem.now }
+    requires valid { IsValid problem.now walk.now.node }
+    ensures { IfOk result (λ kept. IsTrue kept ↔ Kept problem.now (touch_of problem.now walk.now.node)) }
+{
+    a_wanted_calling_is_kept_where_its_part_is_least();
+    let parts = parts_of(problem);
+    if !may_be_kept(problem, walk) {
+        return Ok(false);
+    }
+    if parts == 1 && turn_free(problem.query()) {
+        return Ok(is_true_and_short(problem, walk));
+    }
+    let touch = touch_of(alloc, problem, walk.steps())?;
+    is_kept(alloc, problem, leads, &touch)
+}
+
+// Whether what the walk tells of its node allows that the touch is kept.
+fn may_be_kept(problem: &Problem, walk: &Walk) -> bool
+    requires { walk.now.problem ≡ problem.now }
+    ensures { IsTrue result ↔ MayBeKept problem.now walk.now.node }
+{
+    comes_home(problem, walk.steps(), walk.head())
+        && is_long_enough(problem, walk.length())
+        && meets_counts(problem, walk)
+        && is_least_if_asked(problem, walk)
+}
+
+// Whether the counts of marks and those of methods are met.
+fn meets_counts(problem: &Problem, walk: &Walk) -> bool
+    requires { walk.now.problem ≡ problem.now }
+    ensures { IsTrue result ↔ (MeetsCounts problem.now (touch_of problem.now walk.now.node)
+        × MeetsMethodCounts problem.now (touch_of problem.now walk.now.node)) }
+{
+    walk.meets_counts()
+}
+
+// Whether no rotation of the node is less than it, if all rotations of a touch meet the query or none.
+fn is_least_if_asked(problem: &Problem, walk: &Walk) -> bool
+    ensures { IsTrue result ↔ (turn_free problem.now.query ≡ true → IsLeastRotation walk.now.node) }
+{
+    !turn_free(problem.query()) || walk.is_least()
+}
+
+// Whether the rows of the node differ and are no more than a touch may have.
+fn is_true_and_short(problem: &Problem, walk: &Walk) -> bool
+    requires { walk.now.problem ≡ problem.now }
+    ensures { IsTrue result ↔ (AllDiffer (rows_of problem.now walk.now.node) × (length_of problem.now walk.now.node ≤ cap problem.now)) }
+{
+    a_test_decides_what_is_true();
+    !walk.has_repeat() && walk.length() <= problem.cap()
+}

@@ -1,0 +1,57 @@
+//! Nodes and touches of the steps of a path.
+
+ghost use Rattle.std.specs.Prelude.{◌≡◌, ℕ, ◌*◌, ◌≤◌, List, length, IfOk};
+ghost use Rattle.cr_model.specs.Nodes.{IsValid};
+ghost use Rattle.cr_model.specs.OneTurn.{touch_of};
+ghost use Rattle.cr_model.specs.Dead.{parts_of};
+ghost use Rattle.cr_model.specs.Sound.{IsSound};
+
+use cr_model::{Calling, Problem};
+use cr_node::Node;
+use cr_row::NoMemory;
+use std::alloc::Global;
+
+/// The touch of a node: its steps as often as the query has parts. Err where no memory is left.
+#[tactic(auto, using(crate::proofs::Short::repeated_more))]
+pub fn touch_of(alloc: Global, problem: &Problem, node: &[u8]) -> Result<Calling, NoMemory>
+    requires { IsValid problem.now node.now }
+    ensures { IfOk result (λ calling. calling ≡ touch_of problem.now node.now) }
+{
+    let parts = parts_of(problem);
+    let mut steps = Vec::with_capacity(alloc, parts * node.len())?;
+    for _part in 0..parts {
+        steps.extend_from_slice(node)?;
+    }
+    match Calling::new(steps) {
+        Ok(touch) => Ok(touch),
+        Err(_) => unreachable!(),
+    }
+}
+
+/// The number of parts.
+pub fn parts_of(problem: &Problem) -> usize
+    ensures is { result ≡ parts_of problem.now }
+    ensures sound { IsSound problem.now }
+{
+    problem.query().parts.unsigned_abs() as usize
+}
+
+/// The number of steps.
+pub fn step_count(problem: &Problem) -> u8
+    ensures is { result ≡ length problem.now.leads }
+    ensures sound { IsSound problem.now }
+{
+    problem.leads().len() as u8
+}
+
+/// The steps as a node. Err where no memory is left.
+pub fn node_from(alloc: Global, problem: &Problem, steps: &[u8]) -> Result<Node, NoMemory>
+    requires { IsValid problem.now steps.now }
+    ensures { IfOk result (λ node. node ≡ steps.now) }
+{
+    let _problem = problem.stage();
+    match Node::new(steps.to_vec(alloc)?) {
+        Ok(node) => Ok(node),
+        Err(_) => unreachable!(),
+    }
+}

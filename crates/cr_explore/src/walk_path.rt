@@ -1,0 +1,97 @@
+//! A path by a walk and a pruner.
+
+ghost use Rattle.std.specs.Prelude.{◌≡◌, [], IfOk};
+ghost use Rattle.cr_model.specs.Sizes.{most_rows};
+ghost use Rattle.cr_leads.specs.Tables.{lead_table};
+ghost use Rattle.cr_reach.specs.Tables.{reach_table};
+
+use crate::keeping::is_touch_kept;
+use crate::path::Path;
+use crate::walking::{go_down, go_to, go_up};
+use cr_leads::LeadTable;
+use cr_model::Problem;
+use cr_model::laws::a_test_decides_what_is_kept;
+use cr_prune::{Pruner, Walk};
+use cr_reach::ReachTable;
+use cr_row::NoMemory;
+use std::alloc::Global;
+use std::marker::Model;
+
+/// A path that rings the leads of its node.
+///
+/// It is seen as the problem and the node.
+#[derive(Drop)]
+pub struct WalkPath<'a> {
+    problem: &'a Problem,
+    leads: &'a LeadTable,
+    walk: Walk<'a>,
+    pruner: Pruner<'a>,
+}
+
+impl<'a> Model for WalkPath<'a> {
+    ghost use Rattle.cr_prune.specs.Walks.{WalkParts};
+    ghost use Rattle.cr_explore.specs.Searches.{IsWalkPath};
+
+    ghost Value = { WalkParts };
+
+    ghost view = { λ w. w.walk };
+
+    ghost invariant = { λ w. IsWalkPath w.problem.now w.leads.now w.walk w.pruner };
+}
+
+impl<'a> WalkPath<'a> {
+    /// The path at the node without steps. Err where no memory is left.
+    pub fn new(
+        alloc: Global,
+        problem: &'a Problem,
+        leads: &'a LeadTable,
+        reach: &'a ReachTable,
+    ) -> Result<WalkPath<'a>, NoMemory>
+        requires leads { leads.now ≡ lead_table problem.now }
+        requires reach { reach.now ≡ reach_table problem.now most_rows }
+        ensures { IfOk result (λ path. path ≡ record { problem = problem.now; node = [] }) }
+    {
+        let walk = Walk::new(alloc, problem, leads)?;
+        let pruner = Pruner::new(leads, reach, problem);
+        Ok(WalkPath {
+            problem,
+            leads,
+            walk,
+            pruner,
+        })
+    }
+}
+
+impl<'a> Path for WalkPath<'a> {
+    ghost problem_of = { λ w. w.problem };
+
+    ghost node_of = { λ w. w.node };
+
+    fn problem(&self) -> &Problem {
+        self.problem
+    }
+
+    fn node(&self) -> &[u8] {
+        self.walk.steps()
+    }
+
+    fn go_to(&mut self, steps: &[u8]) {
+        let _ = self.problem.stage();
+        go_to(&mut self.walk, steps);
+    }
+
+    fn down(&mut self, from: u8) -> Option<u8> {
+        let _ = self.problem.stage();
+        let count = self.leads.count();
+        go_down(&mut self.walk, &self.pruner, from, count)
+    }
+
+    fn up(&mut self) -> u8 {
+        go_up(&mut self.walk)
+    }
+
+    fn is_kept(&mut self, alloc: Global) -> Result<bool, NoMemory> {
+        a_test_decides_what_is_kept();
+        is_touch_kept(alloc, self.problem, self.leads, &self.walk)
+    }
+}
