@@ -22,13 +22,7 @@ pub fn parts_to_ring(problem: &Problem) -> usize
 
 /// Whether so many parts, rung on from the head of the node, bring no row that is kept. It stops at the first that
 /// they bring.
-pub fn bring_new_rows(
-    rows: &Rows,
-    problem: &Problem,
-    node: &[u8],
-    head: Row,
-    parts: usize,
-) -> bool
+pub fn bring_new_rows(rows: &Rows, problem: &Problem, node: &[u8], head: Row, parts: usize) -> bool
     requires steps { HasSteps problem.now node.now }
     requires same_stage { length head ≡ problem.now.stage }
     ensures { IsTrue result ↔ AreNew rows.now.stack.rows (rows_from head (changes_of_all problem.now (repeated parts node.now))) }
