@@ -1,12 +1,13 @@
 -- When the touch of a node is kept.
-use Rattle.std.proofs.Common.{◌≡◌, ℕ, zero, suc, ◌+◌, ◌/◌, ◌≤◌, ◌↔◌, true, pos, ◌≤ℤ◌, nat_eq, List, [], ◌∷◌, length, take, All, Option, Some, None, is_none, append-nil, refl, sym, ap, ◌∙◌, subst, arith}
+use Rattle.std.proofs.Common.{◌≡◌, ◌≢◌, ℕ, zero, suc, ◌+◌, ◌*◌, ◌/◌, ◌≤◌, ◌↔◌, true, pos, ◌≤ℤ◌, nat_eq, List, [], ◌∷◌, length, take, All, Option, Some, None, is_none, append-nil, refl, sym, ap, ◌∙◌, subst, arith}
 use Rattle.std.proofs.lemmas.Bool.{and_parts, false≢true}
 use Rattle.std.proofs.Common.{eqb-true}
+use Rattle.std.proofs.lemmas.List.{take_all}
 use Rattle.cr_model.specs.declared.query.Com.{Com}
 use Rattle.cr_model.specs.Problems.{PatternParts, ProblemParts}
 use Rattle.cr_model.specs.Callings.{HasSteps, rows_of, length_of, AllDiffer}
 use Rattle.cr_model.specs.Queries.{cap, repeated, IsWithin, rows_fitting, MeetsCom, changes_of_method}
-use Rattle.cr_model.specs.Nodes.{part_of}
+use Rattle.cr_model.specs.Nodes.{part_of, IsValid}
 use Rattle.cr_model.specs.Dead.{parts_of, turn_free}
 use Rattle.cr_model.specs.OneTurn.{touch_of}
 use Rattle.cr_model.specs.Sound.{IsSound}
@@ -14,7 +15,9 @@ use Rattle.cr_model.specs.Touches.{Wanted, Kept}
 use Rattle.cr_model.specs.Turning.{IsLeastRotation}
 use Rattle.cr_model.proofs.Below.{words, words_length, some_parts}
 use Rattle.cr_model.proofs.Parts.{first_word}
+use Rattle.cr_prune.proofs.Leads.{leads_differ}
 use Rattle.cr_explore.specs.Keeping.{MayBeKept}
+use Rattle.cr_explore.proofs.Short.{few_changes, touch_has_steps}
 
 -- no words of no steps
 no_steps : (a number : ℕ) → words a number [] ≡ []
@@ -37,10 +40,6 @@ module _ (p : ProblemParts) (node : List ℕ) where
     least = λ free. subst IsLeastRotation (part_is (parts_of p) node (some_parts p sound)) ((least (touch_of p node) free kept.wanted).0 kept);
   }
 
-  -- in one part, the touch is the node
-  one_part : parts_of p ≡ 1 → touch_of p node ≡ node
-  one_part one = ap (λ n. repeated n node) one ∙ append-nil node
-
   -- no patterns and no limits on changes of method
   pub free_parts : turn_free p.query ≡ true → (p.query.patterns ≡ []) × (p.query.com ≡ None)
   free_parts free =
@@ -55,19 +54,28 @@ module _ (p : ProblemParts) (node : List ℕ) where
       no_limits None h = refl
       no_limits (Some limits) h = absurd (false≢true h)
 
-  -- in one part, and where all rotations meet the query or none, the rest are the rows and the length
-  pub kept_in_one_part : ((calling : List ℕ) → turn_free p.query ≡ true → Wanted p calling → Kept p calling ↔ IsLeastRotation (part_of p calling))
-      → IsSound p → parts_of p ≡ 1 → turn_free p.query ≡ true → HasSteps p node → MayBeKept p node
-      → AllDiffer (rows_of p node) → length_of p node ≤ cap p → Kept p (touch_of p node)
-  kept_in_one_part least sound one free steps may differ short =
+  -- rows of a touch that differ do so in its first part
+  pub first_part_differs : IsSound p → AllDiffer (rows_of p (touch_of p node)) → AllDiffer (rows_of p node)
+  first_part_differs sound differ =
+      subst (λ (c : List ℕ). AllDiffer (rows_of p c)) (part_is (parts_of p) node (some_parts p sound)) (leads_differ p (touch_of p node) (length (touch_of p node) / parts_of p) differ)
+
+  -- the touch of a node with steps has some
+  touch_has_some : IsSound p → node ≢ [] → touch_of p node ≢ []
+  touch_has_some sound some none =
+      some (sym (part_is (parts_of p) node (some_parts p sound)) ∙ ap (take (length (touch_of p node) / parts_of p)) none ∙ take_all (length (touch_of p node) / parts_of p) [] (omega arith))
+
+  -- where all rotations meet the query or none, the rest are the rows
+  pub kept_where_rows_differ : ((calling : List ℕ) → turn_free p.query ≡ true → Wanted p calling → Kept p calling ↔ IsLeastRotation (part_of p calling))
+      → IsSound p → turn_free p.query ≡ true → IsValid p node → MayBeKept p node → AllDiffer (rows_of p (touch_of p node)) → Kept p (touch_of p node)
+  kept_where_rows_differ least sound free valid may differ =
       let (patterns, limits) = free_parts free in
-      let same = one_part one in
+      let long : length_of p (touch_of p node) ≡ parts_of p * length_of p node = words_length p 0 (parts_of p) node in
       (least (touch_of p node) free (record {
-        steps = subst (HasSteps p) (sym same) steps;
-        touch = record { some = λ none. may.home.0 (sym same ∙ none); home = may.home.1; differ = subst (λ (c : List ℕ). AllDiffer (rows_of p c)) (sym same) differ };
+        steps = touch_has_steps p node valid.steps;
+        touch = record { some = touch_has_some sound may.home.0; home = may.home.1; differ = differ };
         meets = record {
-          long = subst (λ (n : ℕ). p.query.min ≤ℤ pos n) (sym (words_length p 0 (parts_of p) node)) may.long;
-          short = subst (λ (c : List ℕ). length_of p c ≤ cap p) (sym same) short;
+          long = subst (λ (n : ℕ). p.query.min ≤ℤ pos n) (sym long) may.long;
+          short = omega (arith, long, few_changes p node sound valid);
           parts = (node, refl);
           counts = may.counts.0;
           method_counts = may.counts.1;
@@ -75,11 +83,3 @@ module _ (p : ProblemParts) (node : List ℕ) where
           «com» = subst (λ (o : Option Com). MeetsCom o (changes_of_method p (touch_of p node))) (sym limits) tt;
         };
       })).1 (subst IsLeastRotation (sym (part_is (parts_of p) node (some_parts p sound))) (may.least free))
-
-  -- and the other way round
-  pub rows_differ_in_one_part : parts_of p ≡ 1 → Kept p (touch_of p node) → AllDiffer (rows_of p node) × (length_of p node ≤ cap p)
-  rows_differ_in_one_part one kept =
-      let same = one_part one in (
-        subst (λ (c : List ℕ). AllDiffer (rows_of p c)) same kept.wanted.touch.differ,
-        subst (λ (c : List ℕ). length_of p c ≤ cap p) same kept.wanted.meets.short,
-      )

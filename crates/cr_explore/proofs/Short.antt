@@ -32,7 +32,7 @@ repeated_more number word = let one : number + 1 ≡ suc number = omega arith in
 
 module _ (p : ProblemParts) (node : List ℕ) (sound : IsSound p) (valid : IsValid p node) where
   -- the touch of a valid node is no longer than a touch may be
-  few_changes : parts_of p * length_of p node ≤ cap p
+  pub few_changes : parts_of p * length_of p node ≤ cap p
   few_changes =
       let one = mul-le-mul_left (parts_of p) valid.short in
       omega (arith, one, mul-div-le (cap p) (parts_of p))

@@ -1,22 +1,22 @@
 //! Whether the touch of a walk's node is kept.
 
-ghost use Rattle.std.specs.Prelude.{◌≡◌, ◌↔◌, ◌≤◌, true, IsTrue, IfOk};
+ghost use Rattle.std.specs.Prelude.{◌≡◌, ◌↔◌, true, IsTrue, IfOk};
+ghost use Rattle.cr_row.specs.Rows.{rounds};
 ghost use Rattle.cr_leads.specs.Tables.{lead_table};
-ghost use Rattle.cr_model.specs.Callings.{rows_of, length_of, AllDiffer};
+ghost use Rattle.cr_model.specs.Callings.{rows_of, head_of, AllDiffer};
 ghost use Rattle.cr_model.specs.Dead.{turn_free};
 ghost use Rattle.cr_model.specs.Nodes.{IsValid};
 ghost use Rattle.cr_model.specs.OneTurn.{touch_of};
-ghost use Rattle.cr_model.specs.Queries.{cap};
+ghost use Rattle.cr_model.specs.Sound.{IsSound};
 ghost use Rattle.cr_model.specs.Touches.{Kept};
 ghost use Rattle.cr_model.specs.Turning.{IsLeastRotation};
 ghost use Rattle.cr_query.specs.Meeting.{MeetsCounts, MeetsMethodCounts};
 ghost use Rattle.cr_explore.specs.Keeping.{MayBeKept};
 
 use crate::homes::{comes_home, is_long_enough};
-use crate::touches::{parts_of, touch_of};
+use crate::touches::touch_of;
 use cr_leads::LeadTable;
 use cr_model::Problem;
-use cr_model::laws::a_test_decides_what_is_true;
 use cr_prune::Walk;
 use cr_query::laws::a_wanted_calling_is_kept_where_its_part_is_least;
 use cr_query::{is_kept, turn_free};
@@ -24,8 +24,8 @@ use cr_row::NoMemory;
 use std::alloc::Global;
 
 /// Whether the touch of a walk's node is kept. Where the node does not come home, or its touch is too short, misses a
-/// count or is not the least of its rotations, nothing is rung; nor is it in one part, where all rotations of a touch
-/// meet the query or none. Err where no memory is left.
+/// count or is not the least of its rotations, nothing is rung. Where all rotations of a touch meet the query or none,
+/// half of the further parts are rung at most, and no memory is taken. Err where no memory is left.
 pub fn is_touch_kept(
     alloc: Global,
     problem: &Problem,
@@ -38,12 +38,12 @@ pub fn is_touch_kept(
     ensures { IfOk result (λ kept. IsTrue kept ↔ Kept problem.now (touch_of problem.now walk.now.node)) }
 {
     a_wanted_calling_is_kept_where_its_part_is_least();
-    let parts = parts_of(problem);
+    let query = problem.query();
     if !may_be_kept(problem, walk) {
         return Ok(false);
     }
-    if parts == 1 && turn_free(problem.query()) {
-        return Ok(is_true_and_short(problem, walk));
+    if turn_free(query) {
+        return Ok(has_different_rows(walk));
     }
     let touch = touch_of(alloc, problem, walk.steps())?;
     is_kept(alloc, problem, leads, &touch)
@@ -76,11 +76,11 @@ fn is_least_if_asked(problem: &Problem, walk: &Walk) -> bool
     !turn_free(problem.query()) || walk.is_least()
 }
 
-// Whether the rows of the node differ and are no more than a touch may have.
-fn is_true_and_short(problem: &Problem, walk: &Walk) -> bool
-    requires { walk.now.problem ≡ problem.now }
-    ensures { IsTrue result ↔ (AllDiffer (rows_of problem.now walk.now.node) × (length_of problem.now walk.now.node ≤ cap problem.now)) }
+// Whether the rows of the touch, which comes home, differ.
+fn has_different_rows(walk: &Walk) -> bool
+    requires sound { IsSound walk.now.problem }
+    requires home { head_of walk.now.problem (touch_of walk.now.problem walk.now.node) ≡ rounds walk.now.problem.stage }
+    ensures { IsTrue result ↔ AllDiffer (rows_of walk.now.problem (touch_of walk.now.problem walk.now.node)) }
 {
-    a_test_decides_what_is_true();
-    !walk.has_repeat() && walk.length() <= problem.cap()
+    !walk.has_repeat() && walk.parts_differ()
 }

@@ -41,6 +41,11 @@ const THREE_PARTS: Draft = Draft {
     ..DOUBLES
 };
 
+const FOUR_PARTS: Draft = Draft {
+    parts: 4,
+    ..DOUBLES
+};
+
 const PATTERN: Draft = Draft {
     min: 60,
     max: 60,
@@ -163,7 +168,7 @@ fn texts(alloc: Global, draft: &Draft, done: &Done) -> Result<(Vec<u8>, Vec<u8>)
 // The problem, the turns, what is found, what is left, and the turns that are used.
 type Case = (&'static str, Draft, u64, &'static [u8], &'static [u8], u64);
 
-const CASES: [Case; 12] = [
+const CASES: [Case; 13] = [
     ("no turn", DOUBLES, 0, b"", b"/", 0),
     ("one turn", DOUBLES, 1, b"", b"b/p/", 1),
     ("two turns", DOUBLES, 2, b"", b"b/pb/pp/", 2),
@@ -199,6 +204,7 @@ const CASES: [Case; 12] = [
         b"",
         11,
     ),
+    ("in four parts", FOUR_PARTS, 99, b"pppp/", b"", 8),
     ("with a pattern", PATTERN, 99, b"bpbpbp/", b"", 20),
     ("three turns of minimus", MINIMUS, 3, b"", b"ppp/", 3),
     ("four turns of minimus", MINIMUS, 4, b"ppp/", b"", 4),

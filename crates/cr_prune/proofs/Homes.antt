@@ -57,7 +57,7 @@ and_false true = refl
 and_false false = refl
 
 -- rows that differ are all kept
-whole : (p : ProblemParts) (node : List ℕ) (rows : List (List ℕ)) (fresh : ℕ) → AreRows p node rows fresh → AllDiffer (rows_of p node) → rows ≡ rows_of p node
+pub whole : (p : ProblemParts) (node : List ℕ) (rows : List (List ℕ)) (fresh : ℕ) → AreRows p node rows fresh → AllDiffer (rows_of p node) → rows ≡ rows_of p node
 whole p node rows fresh are differ = elim (cases_eq fresh (length node)) [
   | inl all ↦ all_fresh p node rows fresh are all
   | inr some ↦ absurd (not_fresh p node rows fresh are (λ all. omega (arith, some, all)) differ)

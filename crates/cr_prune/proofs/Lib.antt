@@ -2,6 +2,8 @@ pub mod Ringing
 pub mod Leads
 pub mod Limits
 pub mod Twice
+pub mod Past
 pub mod Homes
+pub mod Multiplied
 pub mod Walking
 pub mod Reasons

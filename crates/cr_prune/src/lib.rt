@@ -4,6 +4,7 @@
 mod ends;
 mod facts;
 pub mod laws;
+mod parts;
 mod pruner;
 mod repeats;
 mod rows;

@@ -1,6 +1,6 @@
 //! The rows of a node, and its first lead that brings one again.
 
-ghost use Rattle.std.specs.Prelude.{◌≡◌, ◌+◌, ◌-◌, ◌<◌, ◌≤◌, ℕ, not, List, [], ◌++◌, length, take, All, Contains, IfOk, IfSome, IsNone};
+ghost use Rattle.std.specs.Prelude.{◌≡◌, ◌+◌, ◌-◌, ◌<◌, ◌≤◌, ℕ, not, List, [], ◌++◌, length, take, All, Contains, IfOk, IfSome, IsNone, IsTrue, ◌↔◌};
 ghost use Rattle.cr_row.specs.Rows.{Places};
 ghost use Rattle.cr_model.specs.Problems.{ProblemParts};
 ghost use Rattle.cr_model.specs.Callings.{rows_from, last_of, rows_of, length_of, head_of, changes_of, AllDiffer};
@@ -46,6 +46,13 @@ impl Rows {
         ensures none { IsNone result → Contains self.now.stack.rows row.now → ⊥ }
     {
         self.stack.place_of(row)
+    }
+
+    /// Whether a row is one of those that are kept.
+    pub fn has(&self, row: &Row) -> bool
+        ensures { IsTrue result ↔ Contains self.now.stack.rows row.now }
+    {
+        self.place_of(row).is_some()
     }
 
     /// Rings one more lead from the head of so many, unless one of these brings a row again. Gives the last row,

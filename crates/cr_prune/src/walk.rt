@@ -19,6 +19,7 @@ ghost use Rattle.cr_prune.specs.Rung.{AreRows};
 ghost use Rattle.cr_prune.specs.Walks.{walk_from, parent, room_of};
 
 use crate::ends::{Ends, LeadEnd};
+use crate::parts::{bring_new_rows, parts_to_ring};
 use crate::rows::Rows;
 use cr_leads::LeadTable;
 use cr_model::laws::joined_callings_multiply;
@@ -146,6 +147,18 @@ impl<'a> Walk<'a> {
         ensures { result ≡ not (rows_differ (rows_of self.now.problem self.now.node)) }
     {
         self.rows.has_repeat(self.steps.steps().len())
+    }
+
+    /// Whether all rows of the node's touch differ, where those of the node do and the touch comes home. It takes no
+    /// memory, rings half of the parts, and stops at the first row of the node that comes again.
+    pub fn parts_differ(&self) -> bool
+        requires fresh { rows_differ (rows_of self.now.problem self.now.node) ≡ true }
+        requires home { head_of self.now.problem (touch_of self.now.problem self.now.node) ≡ rounds self.now.problem.stage }
+        ensures { result ≡ rows_differ (rows_of self.now.problem (touch_of self.now.problem self.now.node)) }
+    {
+        let head = self.ends.last().head;
+        let parts = parts_to_ring(self.problem);
+        bring_new_rows(&self.rows, self.problem, self.steps.steps(), head, parts)
     }
 
     /// Whether no rotation of the node is less than it.
