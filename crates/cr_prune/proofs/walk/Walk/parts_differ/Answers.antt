@@ -1,18 +1,10 @@
-use Rattle.std.proofs.Common.{◌≡◌, ℕ, ◌+◌, ◌-◌, ◌≤◌, ◌∙◌, ◌↔◌, List, length, sym, ap, subst, arith}
-use Rattle.std.specs.Prelude.{IsTrue}
-use Rattle.std.proofs.lemmas.Bool.Decides.{same_from_decides}
+use Rattle.std.proofs.Common.{◌≡◌, ◌∙◌, length, sym, ap, subst}
 use Rattle.cr_row.specs.Rows.{rounds}
 use Rattle.cr_model.specs.Callings.{rows_of, head_of}
-use Rattle.cr_model.specs.Dead.{parts_of}
 use Rattle.cr_model.specs.Decided.{rows_differ}
 use Rattle.cr_model.specs.OneTurn.{touch_of}
-use Rattle.cr_model.specs.Queries.{repeated}
-use Rattle.cr_model.proofs.Below.{some_parts}
-use Rattle.cr_model.proofs.Deciding.{rows_differ_decided}
 use Rattle.cr_prune.specs.declared.ends.LeadEnd.{LeadEnd}
-use Rattle.cr_prune.specs.Parts.{AreNew}
 use Rattle.cr_prune.specs.Walks.{WalkParts}
-use Rattle.cr_prune.proofs.Homes.{whole}
 use Rattle.cr_prune.proofs.Limits.{head_long}
 use Rattle.cr_prune.proofs.Multiplied.{touch_told}
 use Rattle.cr_prune.proofs.walk.Walk.parts_differ.Goals as goal
