@@ -1,5 +1,5 @@
 -- Each of the two steps of the plain hunt is a job that one turn finishes, with one touch.
-use Rattle.std.proofs.Common.{◌≡◌, ◌≢◌, ℕ, zero, suc, ◌+◌, ◌<◌, ◌≤◌, false, List, [], ◌∷◌, ◌++◌, length, get_or, take, All, Any, Option, refl, sym, ap, ◌∙◌, subst, arith}
+use Rattle.std.proofs.Common.{◌≡◌, ◌≢◌, ℕ, zero, suc, ◌+◌, ◌<◌, ◌≤◌, false, List, [], ◌∷◌, ◌++◌, length, get_or, take, All, Any, Option, None, refl, sym, ap, ◌∙◌, subst, arith}
 use Rattle.std.proofs.lemmas.List.Sums.{sum_by-cons}
 use Rattle.cr_model.specs.Problems.{ProblemParts}
 use Rattle.cr_model.specs.Callings.{HasSteps, length_of}
@@ -17,10 +17,15 @@ use Rattle.cr_model.specs.Books.{book_order}
 use Rattle.cr_board.specs.Jobs.{IsOpening, opening_nodes}
 use Rattle.cr_board.specs.Examples.{hunts, two_jobs}
 use Rattle.cr_board.proofs.Openings.{none_ascend}
+use Rattle.cr_board.proofs.Parting.{AmongOthers}
 
 -- what laws of one turn and of sizes say
 abbrev pub OneTurnSplits : Type 0
 OneTurnSplits = (p : ProblemParts) (most : ℕ) (node : List ℕ) → IsSound p → IsValid p node → Splits p (node ∷ []) (touch_found p node) (live_children p most node)
+
+abbrev pub GoesOn : Type 0
+GoesOn = (p : ProblemParts) (job found rest more left : List (List ℕ)) (used further : ℕ)
+    → IsDone p job found rest used → IsDone p rest more left further → IsDone p job (found ++ more) left (used + further)
 
 abbrev pub SizesAreSums : Type 0
 SizesAreSums = (p : ProblemParts) (most : ℕ) (node : List ℕ) → IsSound p → size p most node ≡ 1 + size_of_all p most (live_children p most node)
@@ -115,3 +120,31 @@ all_more P xs i x inside is here before =
 
 pub all_taken : (P : List ℕ → Type 0) (xs : List (List ℕ)) (n : ℕ) → length xs ≤ n → All P (take n xs) → All P xs
 all_taken P xs n whole all = subst (All P) (take_all n xs whole) all
+
+-- the job of both steps, finished in two turns, the last step's touch first
+pub both_hunted : OneTurnSplits → SizesAreSums → AmongOthers → GoesOn → IsSound hunts → IsDone hunts ((1 ∷ []) ∷ (0 ∷ []) ∷ []) ((0 ∷ []) ∷ (1 ∷ []) ∷ []) [] 2
+both_hunted turns sizes among onward sound =
+    onward hunts ((1 ∷ []) ∷ (0 ∷ []) ∷ []) ((0 ∷ []) ∷ []) ((1 ∷ []) ∷ []) ((1 ∷ []) ∷ []) [] 1 1 first (hunted turns sizes sound 1 (omega arith))
+  where
+    both : IsOpening (two_jobs None)
+    both = both_open None
+    later : IsDone hunts ((0 ∷ []) ∷ []) ((0 ∷ []) ∷ []) [] 1
+    later = hunted turns sizes sound 0 (omega arith)
+    first : IsDone hunts ((1 ∷ []) ∷ (0 ∷ []) ∷ []) ((0 ∷ []) ∷ []) ((1 ∷ []) ∷ []) 1
+    first = record {
+      job = record { some = omega arith; valid = both.valid; independent = both.independent };
+      splits = among hunts ((0 ∷ []) ∷ []) ((0 ∷ []) ∷ []) [] ((1 ∷ []) ∷ []) later.splits (λ k d inside. one k d inside) both.independent;
+      size = omega (arith, later.size, sum_by-cons (size hunts most_rows) (1 ∷ []) ((0 ∷ []) ∷ []), sum_by-cons (size hunts most_rows) (1 ∷ []) []);
+    }
+      where
+        one : All (IsValid hunts) ((1 ∷ []) ∷ [])
+        one zero d inside = step_one
+        one (suc k) d inside = absurd (omega arith)
+
+pub both_of : (p : ProblemParts) (nodes found rest : List (List ℕ)) → p ≡ hunts → nodes ≡ (1 ∷ []) ∷ (0 ∷ []) ∷ [] → found ≡ (0 ∷ []) ∷ (1 ∷ []) ∷ [] → rest ≡ []
+    → IsDone hunts ((1 ∷ []) ∷ (0 ∷ []) ∷ []) ((0 ∷ []) ∷ (1 ∷ []) ∷ []) [] 2 → IsDone p nodes found rest 2
+both_of p nodes found rest problem is same none done =
+    subst (λ q. IsDone q nodes found rest 2) (sym problem)
+      (subst (λ n. IsDone hunts n found rest 2) (sym is)
+        (subst (λ f. IsDone hunts ((1 ∷ []) ∷ (0 ∷ []) ∷ []) f rest 2) (sym same)
+          (subst (λ r. IsDone hunts ((1 ∷ []) ∷ (0 ∷ []) ∷ []) ((0 ∷ []) ∷ (1 ∷ []) ∷ []) r 2) (sym none) done)))

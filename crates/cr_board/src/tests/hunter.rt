@@ -8,7 +8,7 @@ ghost use Rattle.cr_board.specs.Examples.{on_three, hunt, hunts, two_jobs};
 
 use crate::copies::copy_nodes;
 use crate::{Board, Opening};
-use cr_model::laws::{one_turn_splits_a_node, sizes_are_sums};
+use cr_model::laws::{a_split_among_others, one_turn_splits_a_node, sizes_are_sums};
 use cr_model::{Calling, Lead, Problem, Query, Step};
 use cr_node::laws::work_goes_on;
 use cr_node::{Done, Explorer, Node, independent};
@@ -102,6 +102,40 @@ fn lone_node(alloc: Global, step: u8) -> Result<Vec<Node>, NoMemory>
         Err(_) => return Err(NoMemory),
     }
     Ok(job)
+}
+
+/// The finished work of two turns on the job of both steps, step 1 first.
+pub fn both_hunted(alloc: Global) -> Result<Done, Fail> {
+    one_turn_splits_a_node();
+    sizes_are_sums();
+    a_split_among_others();
+    work_goes_on();
+    let problem = plain_hunts(alloc)?;
+    let _ = problem.stage();
+    let job = both_nodes(alloc)?;
+    let found = both_callings(alloc)?;
+    let rest = Vec::new(alloc);
+    Ok(Done::new(problem, job, found, rest, 2))
+}
+
+/// The nodes of step 1 and of step 0.
+pub fn both_nodes(alloc: Global) -> Result<Vec<Node>, NoMemory>
+    ensures { IfOk result (λ job. job.items ≡ (1 ∷ []) ∷ (0 ∷ []) ∷ []) }
+{
+    let mut job = lone_node(alloc, 1)?;
+    let mut other = lone_node(alloc, 0)?;
+    job.append(&mut other)?;
+    Ok(job)
+}
+
+// The touches of step 0 and of step 1.
+fn both_callings(alloc: Global) -> Result<Vec<Calling>, NoMemory>
+    ensures { IfOk result (λ found. found.items ≡ (0 ∷ []) ∷ (1 ∷ []) ∷ []) }
+{
+    let mut found = lone_calling(alloc, 0)?;
+    let mut other = lone_calling(alloc, 1)?;
+    found.append(&mut other)?;
+    Ok(found)
 }
 
 // The touch of one step, alone.

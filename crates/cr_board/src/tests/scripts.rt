@@ -5,7 +5,8 @@ ghost use Rattle.cr_board.specs.Examples.{hunts};
 
 use super::hunter::*;
 use crate::copies::copy_nodes;
-use crate::{Board, Claimed, Entry, Event, Handed, Taken};
+use crate::same::same_nodes;
+use crate::{Board, Claimed, Entry, Event, Handed, Opening, Taken};
 use cr_node::{Done, Explorer, Node};
 use std::alloc::Global;
 use std::mem;
@@ -346,5 +347,53 @@ fn scripts_of_one_job(rt: HostRuntime) -> Result<(), Fail> {
         let mut board = board_of(rt.alloc(), text, budget)?;
         follow(&mut board, rt.alloc(), rows)?;
     }
+    Ok(())
+}
+
+// A budget of one turn is granted whole, and work of two turns is more.
+#[test]
+fn work_over_its_grant(rt: HostRuntime) -> Result<(), Fail> {
+    let problem = plain_hunts(rt.alloc())?;
+    let mut board = board_of_one(rt.alloc(), &problem, &both_nodes(rt.alloc())?, Some(1))?;
+    let taken = board.next_job(rt.alloc(), 0)?;
+    assert_eq!(rt; seen_taken(&taken), Seen::Job(0, 1));
+    let handed = board.hand_in(0, 0, both_hunted(rt.alloc())?);
+    assert_eq!(rt; seen_handed(&handed), Seen::Over(1));
+    assert_eq!(rt; board.journal().len(), 1);
+    Ok(())
+}
+
+// The halves of five nodes are the first two and the last three, in their order.
+#[test]
+fn halves_of_a_rest(rt: HostRuntime) -> Result<(), Fail> {
+    let mut board = board_of(rt.alloc(), b"ppp/ppb/pb/bp/bb/", None)?;
+    follow(&mut board, rt.alloc(), CASES[3].2.split_at(2).0)?;
+    if board.opening().workers() != 3 {
+        return Err(Fail::from("there are three workers"));
+    }
+    let [first, second] = board.lane(0) else {
+        return Err(Fail::from("there are two jobs"));
+    };
+    let front = nodes(rt.alloc(), b"ppp/ppb/")?;
+    let back = nodes(rt.alloc(), b"pb/bp/bb/")?;
+    assert!(rt; same_nodes(&first.nodes, &front) && same_nodes(&second.nodes, &back));
+    Ok(())
+}
+
+#[test]
+fn openings(rt: HostRuntime) -> Result<(), Fail> {
+    let opening = Opening::fresh(rt.alloc(), doubles(rt.alloc())?, Some(7), 2)?;
+    let copy = opening.copy(rt.alloc())?;
+    let other = Opening::fresh(rt.alloc(), doubles(rt.alloc())?, Some(8), 2)?;
+    assert_eq!(rt; (copy.budget(), copy.workers()), (Some(7), 2));
+    assert_eq!(rt; (copy.found().len(), copy.jobs().len()), (0, 1));
+    let mut board = Board::open(rt.alloc(), opening)?;
+    assert!(rt; board.same_opening(&copy) && !board.same_opening(&other));
+    assert!(rt; !board.is_done());
+    let Taken::Job(ticket) = board.next_job(rt.alloc(), 1)? else {
+        return Err(Fail::from("there is a job"));
+    };
+    assert_eq!(rt; (ticket.number, ticket.grant, ticket.nodes.len()), (0, 7, 1));
+    assert!(rt; !board.is_done());
     Ok(())
 }
