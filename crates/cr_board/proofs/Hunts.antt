@@ -1,15 +1,15 @@
 -- Each of the two steps of the plain hunt is a job that one turn finishes, with one touch.
-use Rattle.std.proofs.Common.{◌≡◌, ◌≢◌, ℕ, zero, suc, ◌+◌, ◌<◌, ◌≤◌, false, List, [], ◌∷◌, ◌++◌, length, get_or, take, All, Any, Option, None, refl, sym, ap, ◌∙◌, subst, arith}
+use Rattle.std.proofs.Common.{◌≡◌, ◌≢◌, ℕ, zero, suc, ◌+◌, ◌<◌, ◌≤◌, false, List, [], ◌∷◌, ◌++◌, length, get_or, take, All, Option, None, refl, sym, ap, ◌∙◌, subst, arith}
 use Rattle.std.proofs.lemmas.List.Sums.{sum_by-cons}
 use Rattle.cr_model.specs.Problems.{ProblemParts}
 use Rattle.cr_model.specs.Callings.{HasSteps, length_of}
-use Rattle.cr_model.specs.Queries.{extent, part_cap}
+use Rattle.cr_model.specs.Queries.{extent}
 use Rattle.cr_model.specs.Nodes.{is_prefix, IsValid, Splits, Independent}
 use Rattle.cr_model.specs.Sound.{IsSound}
 use Rattle.cr_model.specs.Dead.{dead}
 use Rattle.cr_model.specs.Sizes.{most_rows, size, size_of_all, live_children}
 use Rattle.cr_model.specs.OneTurn.{touch_found}
-use Rattle.cr_node.specs.Work.{IsJob, IsDone}
+use Rattle.cr_node.specs.Work.{IsDone}
 use Rattle.std.proofs.lemmas.List.Elements.{All-nil, All-append}
 use Rattle.std.proofs.lemmas.List.{take_more, take_all}
 use Rattle.cr_model.specs.Touches.{Kept}
@@ -44,6 +44,7 @@ done_alone turns sizes p node sound valid found none = record {
     one : All (IsValid p) (node ∷ [])
     one zero d inside = valid
     one (suc k) d inside = absurd (omega arith)
+
     alone : Independent p [] (node ∷ [])
     alone = record {
       nodes_apart = λ i j inside within differ. absurd (differ (omega arith));
@@ -78,7 +79,7 @@ hunted turns sizes sound (suc (suc step)) known = absurd (omega arith)
 pub done_of : (p : ProblemParts) (nodes found rest job touches : List (List ℕ)) → p ≡ hunts → nodes ≡ job → found ≡ touches → rest ≡ [] → IsDone hunts job touches [] 1 → IsDone p nodes found rest 1
 done_of p nodes found rest job touches problem is same none done =
     subst (λ q. IsDone q nodes found rest 1) (sym problem)
-      (subst (λ n. IsDone hunts n found rest 1) (sym is) (subst (λ f. IsDone hunts job f rest 1) (sym same) (subst (λ r. IsDone hunts job touches r 1) (sym none) done)))
+    (subst (λ n. IsDone hunts n found rest 1) (sym is) (subst (λ f. IsDone hunts job f rest 1) (sym same) (subst (λ r. IsDone hunts job touches r 1) (sym none) done)))
 
 -- the opening of both steps
 pub both_open : (budget : Option ℕ) → IsOpening (two_jobs budget)
@@ -96,10 +97,12 @@ both_open budget = record {
     filled zero d inside = omega arith
     filled (suc zero) d inside = omega arith
     filled (suc (suc k)) d inside = absurd (omega arith)
+
     valid : All (IsValid hunts) (opening_nodes (two_jobs budget))
     valid zero d inside = step_one
     valid (suc zero) d inside = step_zero
     valid (suc (suc k)) d inside = absurd (omega arith)
+
     apart : (i j : ℕ) → i < 2 → j < 2 → i ≢ j → is_prefix (get_or (opening_nodes (two_jobs budget)) i []) (get_or (opening_nodes (two_jobs budget)) j []) ≡ false
     apart zero zero inside within differ = absurd (differ refl)
     apart zero (suc zero) inside within differ = refl
@@ -128,8 +131,10 @@ both_hunted turns sizes among onward sound =
   where
     both : IsOpening (two_jobs None)
     both = both_open None
+
     later : IsDone hunts ((0 ∷ []) ∷ []) ((0 ∷ []) ∷ []) [] 1
     later = hunted turns sizes sound 0 (omega arith)
+
     first : IsDone hunts ((1 ∷ []) ∷ (0 ∷ []) ∷ []) ((0 ∷ []) ∷ []) ((1 ∷ []) ∷ []) 1
     first = record {
       job = record { some = omega arith; valid = both.valid; independent = both.independent };
@@ -145,6 +150,6 @@ pub both_of : (p : ProblemParts) (nodes found rest : List (List ℕ)) → p ≡ 
     → IsDone hunts ((1 ∷ []) ∷ (0 ∷ []) ∷ []) ((0 ∷ []) ∷ (1 ∷ []) ∷ []) [] 2 → IsDone p nodes found rest 2
 both_of p nodes found rest problem is same none done =
     subst (λ q. IsDone q nodes found rest 2) (sym problem)
-      (subst (λ n. IsDone hunts n found rest 2) (sym is)
-        (subst (λ f. IsDone hunts ((1 ∷ []) ∷ (0 ∷ []) ∷ []) f rest 2) (sym same)
-          (subst (λ r. IsDone hunts ((1 ∷ []) ∷ (0 ∷ []) ∷ []) ((0 ∷ []) ∷ (1 ∷ []) ∷ []) r 2) (sym none) done)))
+    (subst (λ n. IsDone hunts n found rest 2) (sym is)
+    (subst (λ f. IsDone hunts ((1 ∷ []) ∷ (0 ∷ []) ∷ []) f rest 2) (sym same)
+    (subst (λ r. IsDone hunts ((1 ∷ []) ∷ (0 ∷ []) ∷ []) ((0 ∷ []) ∷ (1 ∷ []) ∷ []) r 2) (sym none) done)))

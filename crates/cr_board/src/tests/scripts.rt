@@ -23,6 +23,7 @@ enum Call {
     // Hands in what a worker holds as it is, under a number.
     NotBegun(u32, u64),
 }
+
 use Call::*;
 
 #[derive(Clone, Copy, Debug, PartialEq, Eq)]
@@ -174,12 +175,39 @@ const SCRIPT: [Row; 14] = [
 ];
 
 const JOURNAL: [Entry; 6] = [
-    Entry::Take { worker: 0, lane: 0, job: 1, grant: 4096 },
-    Entry::Take { worker: 1, lane: 0, job: 0, grant: 4096 },
+    Entry::Take {
+        worker: 0,
+        lane: 0,
+        job: 1,
+        grant: 4096,
+    },
+    Entry::Take {
+        worker: 1,
+        lane: 0,
+        job: 0,
+        grant: 4096,
+    },
     Entry::Back { worker: 1, job: 0 },
-    Entry::Take { worker: 2, lane: 1, job: 0, grant: 4096 },
-    Entry::Hand { worker: 0, job: 1, used: 1, touches: 1, opened: 0 },
-    Entry::Hand { worker: 2, job: 0, used: 1, touches: 1, opened: 0 },
+    Entry::Take {
+        worker: 2,
+        lane: 1,
+        job: 0,
+        grant: 4096,
+    },
+    Entry::Hand {
+        worker: 0,
+        job: 1,
+        used: 1,
+        touches: 1,
+        opened: 0,
+    },
+    Entry::Hand {
+        worker: 2,
+        job: 0,
+        used: 1,
+        touches: 1,
+        opened: 0,
+    },
 ];
 
 // Whether the journal is that of the script, and both touches were found, the first step's first, in two turns.
@@ -259,86 +287,122 @@ type Case = (&'static [u8], Option<u64>, &'static [Row]);
 
 const CASES: [Case; 9] = [
     // A rest of one node is one job, and of two two.
-    (b"p/", None, &[
-        (Next(0), Seen::Job(0, 4096), [&[], &[], &[]]),
-        (NotBegun(0, 0), Seen::In, [&[1], &[], &[]]),
-    ]),
-    (b"p/b/", None, &[
-        (Next(1), Seen::Job(0, 4096), [&[], &[], &[]]),
-        (NotBegun(1, 0), Seen::In, [&[], &[1, 2], &[]]),
-        (Next(1), Seen::Job(2, 4096), [&[], &[1], &[]]),
-    ]),
+    (
+        b"p/",
+        None,
+        &[
+            (Next(0), Seen::Job(0, 4096), [&[], &[], &[]]),
+            (NotBegun(0, 0), Seen::In, [&[1], &[], &[]]),
+        ],
+    ),
+    (
+        b"p/b/",
+        None,
+        &[
+            (Next(1), Seen::Job(0, 4096), [&[], &[], &[]]),
+            (NotBegun(1, 0), Seen::In, [&[], &[1, 2], &[]]),
+            (Next(1), Seen::Job(2, 4096), [&[], &[1], &[]]),
+        ],
+    ),
     // Of three the first has one; of five it has two, and two of the others' three are the second of those.
-    (b"p/bp/bb/", None, &[
-        (Next(0), Seen::Job(0, 4096), [&[], &[], &[]]),
-        (NotBegun(0, 0), Seen::In, [&[1, 2], &[], &[]]),
-        (Next(0), Seen::Job(2, 4096), [&[1], &[], &[]]),
-        (NotBegun(0, 2), Seen::In, [&[1, 3, 4], &[], &[]]),
-    ]),
-    (b"ppp/ppb/pb/bp/bb/", None, &[
-        (Next(0), Seen::Job(0, 4096), [&[], &[], &[]]),
-        (NotBegun(0, 0), Seen::In, [&[1, 2], &[], &[]]),
-        (Next(0), Seen::Job(2, 4096), [&[1], &[], &[]]),
-        (NotBegun(0, 2), Seen::In, [&[1, 3, 4], &[], &[]]),
-        // A claim from the middle of a lane, and a steal from the next lane round the end.
-        (Claim(2, 3), Seen::Job(3, 4096), [&[1, 4], &[], &[]]),
-        (Next(1), Seen::Job(1, 4096), [&[4], &[], &[]]),
-        (Next(0), Seen::Job(4, 4096), [&[], &[], &[]]),
-        // Three held jobs are recalled, each to its worker's lane.
-        (Recall, Seen::Nothing, [&[4], &[1], &[3]]),
-    ]),
+    (
+        b"p/bp/bb/",
+        None,
+        &[
+            (Next(0), Seen::Job(0, 4096), [&[], &[], &[]]),
+            (NotBegun(0, 0), Seen::In, [&[1, 2], &[], &[]]),
+            (Next(0), Seen::Job(2, 4096), [&[1], &[], &[]]),
+            (NotBegun(0, 2), Seen::In, [&[1, 3, 4], &[], &[]]),
+        ],
+    ),
+    (
+        b"ppp/ppb/pb/bp/bb/",
+        None,
+        &[
+            (Next(0), Seen::Job(0, 4096), [&[], &[], &[]]),
+            (NotBegun(0, 0), Seen::In, [&[1, 2], &[], &[]]),
+            (Next(0), Seen::Job(2, 4096), [&[1], &[], &[]]),
+            (NotBegun(0, 2), Seen::In, [&[1, 3, 4], &[], &[]]),
+            // A claim from the middle of a lane, and a steal from the next lane round the end.
+            (Claim(2, 3), Seen::Job(3, 4096), [&[1, 4], &[], &[]]),
+            (Next(1), Seen::Job(1, 4096), [&[4], &[], &[]]),
+            (Next(0), Seen::Job(4, 4096), [&[], &[], &[]]),
+            // Three held jobs are recalled, each to its worker's lane.
+            (Recall, Seen::Nothing, [&[4], &[1], &[3]]),
+        ],
+    ),
     // Of a lane above and a lane below the one above comes first, and of two lanes above the nearer.
-    (b"p/bp/bb/", None, &[
-        (Next(2), Seen::Job(0, 4096), [&[], &[], &[]]),
-        (NotBegun(2, 0), Seen::In, [&[], &[], &[1, 2]]),
-        (Next(0), Seen::Job(1, 4096), [&[], &[], &[2]]),
-        (Resign(0), Seen::Nothing, [&[1], &[], &[2]]),
-        (Next(1), Seen::Job(2, 4096), [&[1], &[], &[]]),
-        (Resign(0), Seen::Nothing, [&[1], &[], &[]]),
-        (Next(0), Seen::Stranger, [&[1], &[], &[]]),
-        (Recall, Seen::Nothing, [&[1], &[2], &[]]),
-        (Next(0), Seen::Job(1, 4096), [&[], &[2], &[]]),
-    ]),
+    (
+        b"p/bp/bb/",
+        None,
+        &[
+            (Next(2), Seen::Job(0, 4096), [&[], &[], &[]]),
+            (NotBegun(2, 0), Seen::In, [&[], &[], &[1, 2]]),
+            (Next(0), Seen::Job(1, 4096), [&[], &[], &[2]]),
+            (Resign(0), Seen::Nothing, [&[1], &[], &[2]]),
+            (Next(1), Seen::Job(2, 4096), [&[1], &[], &[]]),
+            (Resign(0), Seen::Nothing, [&[1], &[], &[]]),
+            (Next(0), Seen::Stranger, [&[1], &[], &[]]),
+            (Recall, Seen::Nothing, [&[1], &[2], &[]]),
+            (Next(0), Seen::Job(1, 4096), [&[], &[2], &[]]),
+        ],
+    ),
     // With nothing to spend all workers but strangers are told so, who holds a job is told that first, and who is no
     // worker before both.
-    (b"p/", Some(0), &[
-        (Next(0), Seen::Spent, [&[0], &[], &[]]),
-        (Claim(0, 7), Seen::Spent, [&[0], &[], &[]]),
-        (Next(3), Seen::Stranger, [&[0], &[], &[]]),
-        (Claim(3, 7), Seen::Stranger, [&[0], &[], &[]]),
-        (Resign(1), Seen::Nothing, [&[0], &[], &[]]),
-        (Next(1), Seen::Stranger, [&[0], &[], &[]]),
-    ]),
+    (
+        b"p/",
+        Some(0),
+        &[
+            (Next(0), Seen::Spent, [&[0], &[], &[]]),
+            (Claim(0, 7), Seen::Spent, [&[0], &[], &[]]),
+            (Next(3), Seen::Stranger, [&[0], &[], &[]]),
+            (Claim(3, 7), Seen::Stranger, [&[0], &[], &[]]),
+            (Resign(1), Seen::Nothing, [&[0], &[], &[]]),
+            (Next(1), Seen::Stranger, [&[0], &[], &[]]),
+        ],
+    ),
     // What is granted counts as spent until it comes back.
-    (b"p/b/", Some(5000), &[
-        (Next(0), Seen::Job(0, 4096), [&[], &[], &[]]),
-        (NotBegun(0, 0), Seen::In, [&[1, 2], &[], &[]]),
-        (Next(0), Seen::Job(2, 4096), [&[1], &[], &[]]),
-        (Next(1), Seen::Job(1, 904), [&[], &[], &[]]),
-        (Next(1), Seen::Mine(1), [&[], &[], &[]]),
-        (Claim(1, 2), Seen::Mine(1), [&[], &[], &[]]),
-        (Next(2), Seen::Spent, [&[], &[], &[]]),
-        (Resign(0), Seen::Nothing, [&[2], &[], &[]]),
-        (Next(2), Seen::Job(2, 4096), [&[], &[], &[]]),
-    ]),
+    (
+        b"p/b/",
+        Some(5000),
+        &[
+            (Next(0), Seen::Job(0, 4096), [&[], &[], &[]]),
+            (NotBegun(0, 0), Seen::In, [&[1, 2], &[], &[]]),
+            (Next(0), Seen::Job(2, 4096), [&[1], &[], &[]]),
+            (Next(1), Seen::Job(1, 904), [&[], &[], &[]]),
+            (Next(1), Seen::Mine(1), [&[], &[], &[]]),
+            (Claim(1, 2), Seen::Mine(1), [&[], &[], &[]]),
+            (Next(2), Seen::Spent, [&[], &[], &[]]),
+            (Resign(0), Seen::Nothing, [&[2], &[], &[]]),
+            (Next(2), Seen::Job(2, 4096), [&[], &[], &[]]),
+        ],
+    ),
     // The least worker that holds a job is waited for; a stale number is a stale number.
-    (b"p/b/", None, &[
-        (Next(1), Seen::Job(0, 4096), [&[], &[], &[]]),
-        (NotBegun(1, 0), Seen::In, [&[], &[1, 2], &[]]),
-        (Next(1), Seen::Job(2, 4096), [&[], &[1], &[]]),
-        (Next(2), Seen::Job(1, 4096), [&[], &[], &[]]),
-        (Next(0), Seen::Wait(1), [&[], &[], &[]]),
-        (Claim(0, 1), Seen::Stale, [&[], &[], &[]]),
-        (Claim(0, 0), Seen::Stale, [&[], &[], &[]]),
-    ]),
+    (
+        b"p/b/",
+        None,
+        &[
+            (Next(1), Seen::Job(0, 4096), [&[], &[], &[]]),
+            (NotBegun(1, 0), Seen::In, [&[], &[1, 2], &[]]),
+            (Next(1), Seen::Job(2, 4096), [&[], &[1], &[]]),
+            (Next(2), Seen::Job(1, 4096), [&[], &[], &[]]),
+            (Next(0), Seen::Wait(1), [&[], &[], &[]]),
+            (Claim(0, 1), Seen::Stale, [&[], &[], &[]]),
+            (Claim(0, 0), Seen::Stale, [&[], &[], &[]]),
+        ],
+    ),
     // Work of another problem is refused, if its number is right.
-    (b"p/", None, &[
-        (Hunted(0, 0, 0), Seen::NotHeld(None), [&[0], &[], &[]]),
-        (Next(0), Seen::Job(0, 4096), [&[], &[], &[]]),
-        (Hunted(0, 1, 0), Seen::NotHeld(Some(0)), [&[], &[], &[]]),
-        (Hunted(0, 0, 0), Seen::OtherProblem, [&[], &[], &[]]),
-        (Hunted(3, 0, 0), Seen::NotHeld(None), [&[], &[], &[]]),
-    ]),
+    (
+        b"p/",
+        None,
+        &[
+            (Hunted(0, 0, 0), Seen::NotHeld(None), [&[0], &[], &[]]),
+            (Next(0), Seen::Job(0, 4096), [&[], &[], &[]]),
+            (Hunted(0, 1, 0), Seen::NotHeld(Some(0)), [&[], &[], &[]]),
+            (Hunted(0, 0, 0), Seen::OtherProblem, [&[], &[], &[]]),
+            (Hunted(3, 0, 0), Seen::NotHeld(None), [&[], &[], &[]]),
+        ],
+    ),
 ];
 
 #[test]
@@ -393,7 +457,10 @@ fn openings(rt: HostRuntime) -> Result<(), Fail> {
     let Taken::Job(ticket) = board.next_job(rt.alloc(), 1)? else {
         return Err(Fail::from("there is a job"));
     };
-    assert_eq!(rt; (ticket.number, ticket.grant, ticket.nodes.len()), (0, 7, 1));
+    assert_eq!(rt;
+        (ticket.number, ticket.grant, ticket.nodes.len()),
+        (0, 7, 1)
+    );
     assert!(rt; !board.is_done());
     Ok(())
 }
