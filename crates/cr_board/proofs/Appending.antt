@@ -1,10 +1,9 @@
 -- What each event appends.
-use Rattle.std.proofs.Common.{◌≡◌, ℕ, zero, suc, Bool, true, false, cond, nat_lt, List, [], ◌∷◌, ◌++◌, Option, Some, None, refl, sym, ap, ◌∙◌, append-nil}
+use Rattle.std.proofs.Common.{◌≡◌, ℕ, zero, suc, Bool, true, false, cond, nat_lt, List, [], ◌++◌, Option, Some, None, refl, sym, ap, ◌∙◌, append-nil}
 use Rattle.std.proofs.lemmas.List.{append_assoc}
 use Rattle.cr_board.specs.Boards.{BoardParts, held_at}
-use Rattle.cr_board.specs.Partitions.{Partition}
 use Rattle.cr_board.specs.Choices.{refusal_of, next_place, claim_place}
-use Rattle.cr_board.specs.Moves.{after_ask, put_back, given_back, after_resigning, back_below, after_recall}
+use Rattle.cr_board.specs.Moves.{after_ask, put_back, given_back, after_resigning, back_below}
 use Rattle.cr_board.specs.Steps.{WorkStep, EventStep}
 use Rattle.cr_board.specs.declared.held.Held.{Held}
 use Rattle.cr_board.specs.declared.place.Place.{Place}

@@ -1,17 +1,12 @@
 -- Where a job is found, it stands; and what holds of a worker that is not refused.
-use Rattle.std.proofs.Common.{◌≡◌, ◌≢◌, ℕ, zero, suc, ◌+◌, ◌-◌, ◌<◌, ◌≤◌, ◌⊎◌, Bool, true, false, cond, not, ◌||◌, nat_eq, nat_lt, List, [], ◌∷◌, ◌++◌, length, get_or, Option, Some, None, is_some, option_map, inl, inr, refl, sym, ap, ◌∙◌, subst, arith}
+use Rattle.std.proofs.Common.{◌≡◌, ℕ, ◌-◌, ◌<◌, Bool, true, false, cond, not, ◌||◌, nat_eq, nat_lt, length, get_or, Option, Some, None, option_map, refl, sym, ap, ◌∙◌, subst, arith}
 use Rattle.std.specs.Prelude.{find}
-use Rattle.std.specs.Option.{option_or}
-use Rattle.std.specs.List.{range_with_len}
-use Rattle.std.proofs.lemmas.Bool.{true≢false, ltb-true}
+use Rattle.std.proofs.lemmas.Bool.{ltb-true}
 use Rattle.std.proofs.lemmas.Option.{none-some, same_Some}
-use Rattle.std.proofs.lemmas.List.Folds.{find-append}
-use Rattle.cr_board.specs.Jobs.{JobParts}
 use Rattle.cr_board.specs.Boards.{BoardParts, lane_at, held_at, promised}
-use Rattle.cr_board.specs.Choices.{is_stranger, is_spent, refusal_of, refusal_to, is_busy, is_number, place_in, has_number, place_at, first_from, round, end_of, next_place, claim_place, Stands}
+use Rattle.cr_board.specs.Choices.{is_spent, refusal_of, refusal_to, is_busy, is_number, place_in, has_number, place_at, first_from, round, end_of, next_place, claim_place, Stands}
 use Rattle.cr_board.specs.declared.held.Held.{Held}
 use Rattle.cr_board.specs.declared.place.Place.{Place}
-use Rattle.cr_board.specs.declared.refusal.Refusal.{Refusal}
 use Rattle.cr_board.specs.declared.refusal.Refusal.TheVariants as refusal
 use Rattle.cr_board.proofs.Finding.{found_passes, round_passes}
 
@@ -28,9 +23,11 @@ free_from b worker free = by (nat_lt worker b.opening.workers) (get_or b.resigne
     spent : (s : Bool) → is_spent b.opening.budget (promised b) ≡ s → cond s (Some refusal.Spent) None ≡ None → is_spent b.opening.budget (promised b) ≡ false
     spent true e h = absurd (none-some refusal.Spent (sym h))
     spent false e h = e
+
     idle : (held : Option Held) → held_at b.held worker ≡ held → refusal_to b held ≡ None → (held_at b.held worker ≡ None) × (is_spent b.opening.budget (promised b) ≡ false)
     idle (Some held) e h = absurd (none-some (refusal.Holding held.job.number) (sym h))
     idle None e h = (e, spent (is_spent b.opening.budget (promised b)) refl h)
+
     by : (inside resigned : Bool) → nat_lt worker b.opening.workers ≡ inside → get_or b.resigned worker false ≡ resigned → IsFree b worker
     by true false e f =
         let both = idle (held_at b.held worker) refl (sym (ap (λ s. cond s (Some refusal.Stranger) (refusal_to b (held_at b.held worker))) (ap (λ i. not i || get_or b.resigned worker false) e ∙ f)) ∙ free) in
@@ -51,8 +48,10 @@ module _ (b : BoardParts) (lanes : length b.lanes ≡ b.opening.workers) where
           at : (own : Bool) → 0 < length (lane_at b.lanes lane) → cond own (length (lane_at b.lanes lane) - 1) 0 < length (lane_at b.lanes lane)
           at true some = omega arith
           at false some = some
+
       in_round : (lane : ℕ) → find (is_busy b.lanes) (round worker b.opening.workers) ≡ Some lane → Stands b.lanes (end_of b worker lane)
       in_round lane e = let (busy, within) = round_passes (is_busy b.lanes) worker b.opening.workers lane inside e in stands lane busy within
+
       by : (lane : Option ℕ) → find (is_busy b.lanes) (round worker b.opening.workers) ≡ lane → Stands b.lanes place
       by (Some lane) e = subst (Stands b.lanes) (same_Some (end_of b worker lane) place (sym (ap (option_map (end_of b worker)) e) ∙ found)) (in_round lane e)
       by None e = absurd (none-some place (sym (ap (option_map (end_of b worker)) e) ∙ found))
@@ -63,13 +62,15 @@ module _ (b : BoardParts) (lanes : length b.lanes ≡ b.opening.workers) where
     where
       at_lane : ℕ → ℕ → Place
       at_lane lane k = record { lane = lane; place = k }
+
       inner : (lane : ℕ) (at : Option ℕ) → place_in (lane_at b.lanes lane) number ≡ at → lane < b.opening.workers
           → option_map (at_lane lane) at ≡ Some place → Stands b.lanes place × (is_number (lane_at b.lanes place.lane) number place.place ≡ true)
       inner lane None e within h = absurd (none-some place h)
       inner lane (Some k) e within h =
           let (passes, low, high) = found_passes (is_number (lane_at b.lanes lane) number) 0 (length (lane_at b.lanes lane) - 0) k e in
           subst (λ pl. Stands b.lanes pl × (is_number (lane_at b.lanes pl.lane) number pl.place ≡ true)) (same_Some (record { lane = lane; place = k }) place h)
-              (record { lane = omega arith; place = omega arith }, passes)
+          (record { lane = omega arith; place = omega arith }, passes)
+
       by : (lane : Option ℕ) → first_from (has_number b.lanes number) 0 b.opening.workers ≡ lane → Stands b.lanes place × (is_number (lane_at b.lanes place.lane) number place.place ≡ true)
       by None e = absurd (none-some place (sym (ap (place_at b.lanes number) e) ∙ found))
       by (Some lane) e =

@@ -1,9 +1,9 @@
 -- What a board covers.
-use Rattle.std.proofs.Common.{◌≡◌, ℕ, ◌+◌, ◌≤◌, ◌↔◌, List, [], sum_by, refl, sym, ap, ◌∙◌, subst, arith}
+use Rattle.std.proofs.Common.{◌≡◌, ℕ, ◌+◌, ◌≤◌, ◌↔◌, List, [], ap, arith}
 use Rattle.cr_model.specs.Problems.{ProblemParts}
 use Rattle.cr_model.specs.Touches.{Kept}
 use Rattle.cr_model.specs.Nodes.{Covers, nodes_above, times_found}
-use Rattle.cr_model.specs.Sizes.{most_rows, size, size_of_all}
+use Rattle.cr_model.specs.Sizes.{most_rows, size_of_all}
 use Rattle.cr_board.specs.Jobs.{opening_nodes}
 use Rattle.cr_board.specs.Boards.{BoardParts, jobs_of, nodes_of, nodes_in}
 use Rattle.cr_board.specs.Partitions.{IsPartition, Partition}

@@ -1,8 +1,7 @@
 -- No job is left where no lane is busy and nobody holds one.
-use Rattle.std.proofs.Common.{◌≡◌, ℕ, zero, suc, ◌+◌, ◌-◌, ◌<◌, ◌≤◌, Bool, true, false, not, List, [], ◌∷◌, ◌++◌, length, get_or, flat_map, Option, Some, None, is_some, is_none, ◌↔◌, refl, sym, ap, ap₂, ◌∙◌, subst, arith}
+use Rattle.std.proofs.Common.{◌≡◌, ℕ, zero, suc, ◌+◌, ◌-◌, ◌<◌, ◌≤◌, Bool, true, false, not, List, [], ◌∷◌, ◌++◌, length, get_or, flat_map, Option, Some, None, is_some, ◌↔◌, refl, sym, ap, ap₂, ◌∙◌, arith}
 use Rattle.std.specs.Prelude.{IsTrue}
 use Rattle.std.proofs.lemmas.Bool.{ltb-false, le-ltb, false≢true}
-use Rattle.std.proofs.lemmas.List.{get_or_default}
 use Rattle.std.proofs.lemmas.List.Concat.{flat_map-cons}
 use Rattle.cr_board.specs.Jobs.{JobParts}
 use Rattle.cr_board.specs.Boards.{lane_at, held_at, held_jobs, jobs_in}
@@ -48,10 +47,10 @@ module _ (lanes : List (List JobParts)) (held : List (Option Held)) where
       let number : length lanes - 0 ≡ length lanes = omega arith in
       let count : length held - 0 ≡ length held = omega arith in
       ap₂ (λ a b. a ++ b)
-        (all_empty (λ lane. lane) lanes [] (λ k inside. no_length (lane_at lanes k)
-          (ltb-false 0 (length (lane_at lanes k)) (let at : k ≡ 0 + k = omega arith in ap (is_busy lanes) at ∙ none_found (is_busy lanes) 0 (length lanes - 0) idle k (omega arith)))))
-        (all_empty held_jobs held None (λ k inside. not_held (held_at held k)
-          (let at : k ≡ 0 + k = omega arith in ap (is_holding held) at ∙ none_found (is_holding held) 0 (length held - 0) free k (omega arith))))
+      (all_empty (λ lane. lane) lanes [] (λ k inside. no_length (lane_at lanes k)
+      (ltb-false 0 (length (lane_at lanes k)) (let at : k ≡ 0 + k = omega arith in ap (is_busy lanes) at ∙ none_found (is_busy lanes) 0 (length lanes - 0) idle k (omega arith)))))
+      (all_empty held_jobs held None (λ k inside. not_held (held_at held k)
+      (let at : k ≡ 0 + k = omega arith in ap (is_holding held) at ∙ none_found (is_holding held) 0 (length held - 0) free k (omega arith))))
 
   lanes_idle : jobs_in lanes held ≡ [] → first_from (is_busy lanes) 0 (length lanes) ≡ None
   lanes_idle none = none_is (is_busy lanes) 0 (length lanes - 0) (λ k inside.

@@ -1,21 +1,20 @@
 -- Each event keeps the partition.
-use Rattle.std.proofs.Common.{◌≡◌, ℕ, zero, suc, ◌+◌, ◌<◌, ◌≤◌, Bool, true, false, cond, nat_lt, List, [], ◌∷◌, ◌++◌, length, get_or, set, replicate, sum_by, flat_map, All, Option, Some, None, inl, inr, refl, sym, ap, ◌∙◌, subst, arith}
+use Rattle.std.proofs.Common.{◌≡◌, ℕ, zero, suc, Bool, true, false, cond, nat_lt, List, [], ◌∷◌, ◌++◌, get_or, set, replicate, Option, Some, None, inl, inr, refl, sym, ap, ◌∙◌, subst, arith}
 use Rattle.std.proofs.lemmas.Bool.{cases_lt, cases_eq, true≢false}
 use Rattle.std.proofs.lemmas.List.{length-set, length-replicate, get_or-replicate, get_or_past, get_or-set_same, get_or-set_other}
-use Rattle.cr_board.specs.Jobs.{OpeningParts, IsOpening}
-use Rattle.cr_board.specs.Boards.{BoardParts, held_at, opened}
+use Rattle.cr_board.specs.Boards.{BoardParts, held_at}
 use Rattle.cr_board.specs.Choices.{refusal_of, next_place, claim_place, Stands}
 use Rattle.cr_board.specs.Partitions.{Partition}
 use Rattle.cr_board.specs.Moves.{after_ask, put_back, given_back, after_resigning, back_below, after_recall}
-use Rattle.cr_board.specs.Steps.{IsWorked, WorkStep, EventStep, Ran}
+use Rattle.cr_board.specs.Steps.{WorkStep, EventStep, Ran}
 use Rattle.cr_board.specs.declared.held.Held.{Held}
 use Rattle.cr_board.specs.declared.place.Place.{Place}
 use Rattle.cr_board.specs.declared.refusal.Refusal.{Refusal}
 use Rattle.cr_board.specs.declared.event.Event.{Event}
 use Rattle.cr_board.specs.declared.event.Event.TheVariants.{Next, Claim, Work as Works, Resign, Recall}
 use Rattle.cr_board.proofs.Parting.{AmongOthers}
-use Rattle.cr_board.proofs.Asking.{IsFree, free_from, next_stands, claim_stands}
-use Rattle.cr_board.proofs.Moving.{after_take, after_back, after_hand, held_after, holder_inside}
+use Rattle.cr_board.proofs.Asking.{free_from, next_stands, claim_stands}
+use Rattle.cr_board.proofs.Moving.{after_take, after_back, after_hand, holder_inside}
 
 -- a worker asked
 pub after_asking : (b : BoardParts) (part : Partition b) (worker : ℕ) (place : Option Place)
@@ -68,8 +67,10 @@ after_leaving b part worker = record {
   where
     back : Partition (given_back b worker)
     back = after_giving b part worker
+
     same : ((given_back b worker).opening ≡ b.opening) × ((given_back b worker).resigned ≡ b.resigned)
     same = giving_keeps b worker
+
     resigned : (other : ℕ) → get_or (set b.resigned worker true) other false ≡ true → held_at (given_back b worker).held other ≡ None
     resigned other gone = elim (cases_eq other worker) [
       | inl e ↦ ap (λ k. held_at (given_back b worker).held k) e ∙ gives_all b worker
@@ -100,6 +101,7 @@ after_recalling b part = record {
   where
     back : Partition (back_below b b.opening.workers)
     back = after_giving_below b part b.opening.workers
+
     none : (other : ℕ) → get_or (replicate b.opening.workers false) other false ≡ false
     none other = elim (cases_lt other b.opening.workers) [
       | inl inside ↦ get_or-replicate b.opening.workers other false false inside
@@ -118,7 +120,7 @@ after_working among b after part worker step = by (held_at b.held worker) refl s
 pub after_event : AmongOthers → (b after : BoardParts) (event : Event) → Partition b → EventStep b event after → Partition after
 after_event among b after (Next worker) part step =
     subst Partition (sym step) (after_asking b part worker (next_place b worker)
-      (λ free at e. next_stands b part.shape.lanes worker at (free_from b worker free).worker e))
+    (λ free at e. next_stands b part.shape.lanes worker at (free_from b worker free).worker e))
 after_event among b after (Claim worker number) part step =
     subst Partition (sym step) (after_asking b part worker (claim_place b number) (λ free at e. (claim_stands b part.shape.lanes number at e).0))
 after_event among b after (Works worker) part step = after_working among b after part worker step

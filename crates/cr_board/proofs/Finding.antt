@@ -1,5 +1,5 @@
 -- The first number that passes a test.
-use Rattle.std.proofs.Common.{◌≡◌, ℕ, zero, suc, ◌+◌, ◌-◌, ◌<◌, ◌≤◌, ◌⊎◌, Bool, true, false, cond, List, [], ◌∷◌, ◌++◌, Option, Some, None, is_some, inl, inr, refl, sym, ap, ◌∙◌, subst, arith}
+use Rattle.std.proofs.Common.{◌≡◌, ℕ, zero, suc, ◌+◌, ◌-◌, ◌<◌, ◌≤◌, ◌⊎◌, Bool, true, false, cond, List, ◌++◌, Option, Some, None, inl, inr, refl, sym, ap, ◌∙◌, arith}
 use Rattle.std.specs.Prelude.{find}
 use Rattle.std.specs.List.{range_with_len}
 use Rattle.std.proofs.lemmas.Bool.{cases_eq}
@@ -37,8 +37,8 @@ module _ (test : ℕ → Bool) where
       let step : from + 1 + before ≡ from + suc before = omega arith in
       ap (λ b. cond b (Some from) (find test (range_with_len (from + 1) count))) (ap test (sym at) ∙ none zero (omega arith))
       ∙ first_is (from + 1) before count
-          (λ k below. let e : from + 1 + k ≡ from + suc k = omega arith in ap test e ∙ none (suc k) (omega arith))
-          (omega arith) (ap test step ∙ passes)
+      (λ k below. let e : from + 1 + k ≡ from + suc k = omega arith in ap test e ∙ none (suc k) (omega arith))
+      (omega arith) (ap test step ∙ passes)
       ∙ ap Some step
 
   -- and where none passes nothing is found

@@ -1,9 +1,9 @@
 -- What every replay keeps: no number stands twice, and no more is granted than the budget.
-use Rattle.std.proofs.Common.{◌≡◌, ℕ, zero, suc, ◌+◌, ◌-◌, ◌*◌, ◌<◌, ◌≤◌, min, cond, nat_eq, List, [], ◌∷◌, ◌++◌, length, get_or, set, replicate, sum_by, Contains, Option, Some, None, IfSome, inl, inr, refl, sym, ap, ◌∙◌, subst, arith}
+use Rattle.std.proofs.Common.{◌≡◌, ℕ, ◌+◌, ◌*◌, ◌<◌, ◌≤◌, List, [], ◌∷◌, ◌++◌, length, get_or, set, replicate, sum_by, Contains, Option, Some, None, IfSome, inl, inr, refl, sym, ap, ◌∙◌, subst, arith}
 use Rattle.std.specs.List.{range_with_len}
 use Rattle.std.proofs.lemmas.Bool.{cases_lt}
 use Rattle.std.proofs.lemmas.Option.{none-some}
-use Rattle.std.proofs.lemmas.List.{length-set, length-replicate, get_or-replicate, get_or_past, get_or_default}
+use Rattle.std.proofs.lemmas.List.{length-set, length-replicate, get_or-replicate, get_or_past}
 use Rattle.std.proofs.lemmas.List.Sums.{sum_by-set}
 use Rattle.std.proofs.lemmas.List.Folds.{sum_by-replicate}
 use Rattle.cr_board.specs.Jobs.{OpeningParts}
@@ -149,12 +149,14 @@ start_keeps o some = record {
   where
     nothing : (f : Option Grip → ℕ) → f None ≡ 0 → sum_by f (replicate o.workers None) ≡ 0
     nothing f none = sum_by-replicate f o.workers None ∙ ap (λ n. o.workers * n) none ∙ omega arith
+
     at_start : (number : ℕ) → times_in (start o) number ≡ times number (range_with_len 0 (length o.jobs))
     at_start number =
         let lanes = sum_by-set (times number) (replicate o.workers []) 0 (range_with_len 0 (length o.jobs)) [] (omega (arith, some, length-replicate {A = List ℕ} o.workers [])) in
         let before : sum_by (times number) (replicate o.workers []) ≡ 0 = sum_by-replicate (times number) o.workers [] ∙ omega arith in
         let first : times number (get_or (replicate o.workers []) 0 []) ≡ 0 = ap (times number) (get_or-replicate o.workers 0 [] [] some) in
         omega (arith, lanes, before, first, nothing (grip_times number) refl)
+
     less : (budget : Option ℕ) → Within budget (0 + sum_by grant_of (replicate o.workers None))
     less None = tt
     less (Some budget) = omega (arith, nothing grant_of refl)
@@ -167,7 +169,7 @@ pub budget_kept : (o : OpeningParts) (journal : List Entry) (budget : ℕ) → 1
     → o.budget ≡ Some budget → (after_entries (start o) journal).spent + sum_by grant_of (after_entries (start o) journal).held ≤ budget
 budget_kept o journal budget some allowed is =
     subst (λ b. Within b ((after_entries (start o) journal).spent + sum_by grant_of (after_entries (start o) journal).held)) is
-      (entries_keep o (start o) journal (start_keeps o some) allowed).within
+    (entries_keep o (start o) journal (start_keeps o some) allowed).within
 
 pub within_some : (budget : Option ℕ) (used : ℕ) → Within budget used → IfSome budget (λ most. used ≤ most)
 within_some None used within = tt

@@ -1,20 +1,31 @@
 -- Each of the two steps of the plain hunt is a job that one turn finishes, with one touch.
-use Rattle.std.proofs.Common.{◌≡◌, ◌≢◌, ℕ, zero, suc, ◌+◌, ◌<◌, ◌≤◌, List, [], ◌∷◌, length, get_or, All, Any, refl, sym, ap, ◌∙◌, subst, arith}
+use Rattle.std.proofs.Common.{◌≡◌, ◌≢◌, ℕ, zero, suc, ◌+◌, ◌<◌, ◌≤◌, false, List, [], ◌∷◌, ◌++◌, length, get_or, take, All, Option, None, refl, sym, ap, ◌∙◌, subst, arith}
 use Rattle.std.proofs.lemmas.List.Sums.{sum_by-cons}
 use Rattle.cr_model.specs.Problems.{ProblemParts}
 use Rattle.cr_model.specs.Callings.{HasSteps, length_of}
-use Rattle.cr_model.specs.Queries.{extent, part_cap}
-use Rattle.cr_model.specs.Nodes.{IsValid, Splits, Independent}
+use Rattle.cr_model.specs.Queries.{extent}
+use Rattle.cr_model.specs.Nodes.{is_prefix, IsValid, Splits, Independent}
 use Rattle.cr_model.specs.Sound.{IsSound}
 use Rattle.cr_model.specs.Dead.{dead}
 use Rattle.cr_model.specs.Sizes.{most_rows, size, size_of_all, live_children}
 use Rattle.cr_model.specs.OneTurn.{touch_found}
-use Rattle.cr_node.specs.Work.{IsJob, IsDone}
-use Rattle.cr_board.specs.Examples.{hunts}
+use Rattle.cr_node.specs.Work.{IsDone}
+use Rattle.std.proofs.lemmas.List.Elements.{All-nil, All-append}
+use Rattle.std.proofs.lemmas.List.{take_more, take_all}
+use Rattle.cr_model.specs.Touches.{Kept}
+use Rattle.cr_model.specs.Books.{book_order}
+use Rattle.cr_board.specs.Jobs.{IsOpening, opening_nodes}
+use Rattle.cr_board.specs.Examples.{hunts, two_jobs}
+use Rattle.cr_board.proofs.Openings.{none_ascend}
+use Rattle.cr_board.proofs.Parting.{AmongOthers}
 
 -- what laws of one turn and of sizes say
 abbrev pub OneTurnSplits : Type 0
 OneTurnSplits = (p : ProblemParts) (most : ℕ) (node : List ℕ) → IsSound p → IsValid p node → Splits p (node ∷ []) (touch_found p node) (live_children p most node)
+
+abbrev pub GoesOn : Type 0
+GoesOn = (p : ProblemParts) (job found rest more left : List (List ℕ)) (used further : ℕ)
+    → IsDone p job found rest used → IsDone p rest more left further → IsDone p job (found ++ more) left (used + further)
 
 abbrev pub SizesAreSums : Type 0
 SizesAreSums = (p : ProblemParts) (most : ℕ) (node : List ℕ) → IsSound p → size p most node ≡ 1 + size_of_all p most (live_children p most node)
@@ -33,6 +44,7 @@ done_alone turns sizes p node sound valid found none = record {
     one : All (IsValid p) (node ∷ [])
     one zero d inside = valid
     one (suc k) d inside = absurd (omega arith)
+
     alone : Independent p [] (node ∷ [])
     alone = record {
       nodes_apart = λ i j inside within differ. absurd (differ (omega arith));
@@ -48,9 +60,96 @@ valid_step step known long = record { steps = steps; short = subst (λ n. n ≤ 
     steps zero d inside = known
     steps (suc k) d inside = absurd (omega arith)
 
+step_zero : IsValid hunts (0 ∷ [])
+unfolding extent
+step_zero = valid_step 0 (omega arith) refl
+
+step_one : IsValid hunts (1 ∷ [])
+unfolding extent
+step_one = valid_step 1 (omega arith) refl
+
 -- and finished work
 pub hunted : OneTurnSplits → SizesAreSums → IsSound hunts → (step : ℕ) → step < 2 → IsDone hunts ((step ∷ []) ∷ []) ((step ∷ []) ∷ []) [] 1
 unfolding extent dead
-hunted turns sizes sound zero known = done_alone turns sizes hunts (0 ∷ []) sound (valid_step 0 known refl) refl refl
-hunted turns sizes sound (suc zero) known = done_alone turns sizes hunts (1 ∷ []) sound (valid_step 1 known refl) refl refl
+hunted turns sizes sound zero known = done_alone turns sizes hunts (0 ∷ []) sound step_zero refl refl
+hunted turns sizes sound (suc zero) known = done_alone turns sizes hunts (1 ∷ []) sound step_one refl refl
 hunted turns sizes sound (suc (suc step)) known = absurd (omega arith)
+
+-- told of the same lists
+pub done_of : (p : ProblemParts) (nodes found rest job touches : List (List ℕ)) → p ≡ hunts → nodes ≡ job → found ≡ touches → rest ≡ [] → IsDone hunts job touches [] 1 → IsDone p nodes found rest 1
+done_of p nodes found rest job touches problem is same none done =
+    subst (λ q. IsDone q nodes found rest 1) (sym problem)
+    (subst (λ n. IsDone hunts n found rest 1) (sym is) (subst (λ f. IsDone hunts job f rest 1) (sym same) (subst (λ r. IsDone hunts job touches r 1) (sym none) done)))
+
+-- the opening of both steps
+pub both_open : (budget : Option ℕ) → IsOpening (two_jobs budget)
+both_open budget = record {
+  kept = All-nil (Kept hunts);
+  ascending = none_ascend (book_order hunts);
+  filled = filled;
+  valid = valid;
+  independent = record { nodes_apart = apart; found_apart = λ i j inside within. absurd (omega arith) };
+  some = omega arith;
+  few = omega arith;
+}
+  where
+    filled : All (λ job. 0 < length job) (two_jobs budget).jobs
+    filled zero d inside = omega arith
+    filled (suc zero) d inside = omega arith
+    filled (suc (suc k)) d inside = absurd (omega arith)
+
+    valid : All (IsValid hunts) (opening_nodes (two_jobs budget))
+    valid zero d inside = step_one
+    valid (suc zero) d inside = step_zero
+    valid (suc (suc k)) d inside = absurd (omega arith)
+
+    apart : (i j : ℕ) → i < 2 → j < 2 → i ≢ j → is_prefix (get_or (opening_nodes (two_jobs budget)) i []) (get_or (opening_nodes (two_jobs budget)) j []) ≡ false
+    apart zero zero inside within differ = absurd (differ refl)
+    apart zero (suc zero) inside within differ = refl
+    apart (suc zero) zero inside within differ = refl
+    apart (suc zero) (suc zero) inside within differ = absurd (differ refl)
+    apart zero (suc (suc j)) inside within differ = absurd (omega arith)
+    apart (suc zero) (suc (suc j)) inside within differ = absurd (omega arith)
+    apart (suc (suc i)) j inside within differ = absurd (omega arith)
+
+-- what holds of the first items and of the next one
+pub all_more : (P : List ℕ → Type 0) (xs : List (List ℕ)) (i : ℕ) (x : List ℕ) → i < length xs → x ≡ get_or xs i x → P x → All P (take i xs) → All P (take (i + 1) xs)
+all_more P xs i x inside is here before =
+    subst (All P) (ap (λ y. take i xs ++ y ∷ []) is ∙ sym (take_more xs i x inside)) (All-append P (take i xs) (x ∷ []) before one)
+  where
+    one : All P (x ∷ [])
+    one zero d within = here
+    one (suc k) d within = absurd (omega arith)
+
+pub all_taken : (P : List ℕ → Type 0) (xs : List (List ℕ)) (n : ℕ) → length xs ≤ n → All P (take n xs) → All P xs
+all_taken P xs n whole all = subst (All P) (take_all n xs whole) all
+
+-- the job of both steps, finished in two turns, the last step's touch first
+pub both_hunted : OneTurnSplits → SizesAreSums → AmongOthers → GoesOn → IsSound hunts → IsDone hunts ((1 ∷ []) ∷ (0 ∷ []) ∷ []) ((0 ∷ []) ∷ (1 ∷ []) ∷ []) [] 2
+both_hunted turns sizes among onward sound =
+    onward hunts ((1 ∷ []) ∷ (0 ∷ []) ∷ []) ((0 ∷ []) ∷ []) ((1 ∷ []) ∷ []) ((1 ∷ []) ∷ []) [] 1 1 first (hunted turns sizes sound 1 (omega arith))
+  where
+    both : IsOpening (two_jobs None)
+    both = both_open None
+
+    later : IsDone hunts ((0 ∷ []) ∷ []) ((0 ∷ []) ∷ []) [] 1
+    later = hunted turns sizes sound 0 (omega arith)
+
+    first : IsDone hunts ((1 ∷ []) ∷ (0 ∷ []) ∷ []) ((0 ∷ []) ∷ []) ((1 ∷ []) ∷ []) 1
+    first = record {
+      job = record { some = omega arith; valid = both.valid; independent = both.independent };
+      splits = among hunts ((0 ∷ []) ∷ []) ((0 ∷ []) ∷ []) [] ((1 ∷ []) ∷ []) later.splits (λ k d inside. one k d inside) both.independent;
+      size = omega (arith, later.size, sum_by-cons (size hunts most_rows) (1 ∷ []) ((0 ∷ []) ∷ []), sum_by-cons (size hunts most_rows) (1 ∷ []) []);
+    }
+      where
+        one : All (IsValid hunts) ((1 ∷ []) ∷ [])
+        one zero d inside = step_one
+        one (suc k) d inside = absurd (omega arith)
+
+pub both_of : (p : ProblemParts) (nodes found rest : List (List ℕ)) → p ≡ hunts → nodes ≡ (1 ∷ []) ∷ (0 ∷ []) ∷ [] → found ≡ (0 ∷ []) ∷ (1 ∷ []) ∷ [] → rest ≡ []
+    → IsDone hunts ((1 ∷ []) ∷ (0 ∷ []) ∷ []) ((0 ∷ []) ∷ (1 ∷ []) ∷ []) [] 2 → IsDone p nodes found rest 2
+both_of p nodes found rest problem is same none done =
+    subst (λ q. IsDone q nodes found rest 2) (sym problem)
+    (subst (λ n. IsDone hunts n found rest 2) (sym is)
+    (subst (λ f. IsDone hunts ((1 ∷ []) ∷ (0 ∷ []) ∷ []) f rest 2) (sym same)
+    (subst (λ r. IsDone hunts ((1 ∷ []) ∷ (0 ∷ []) ∷ []) ((0 ∷ []) ∷ (1 ∷ []) ∷ []) r 2) (sym none) done)))

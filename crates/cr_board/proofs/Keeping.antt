@@ -1,21 +1,21 @@
 -- What a board keeps, after each of its calls.
-use Rattle.std.proofs.Common.{◌≡◌, ℕ, zero, suc, ◌+◌, ◌<◌, ◌≤◌, Bool, true, false, List, [], ◌++◌, length, set, replicate, Option, Some, None, Result, Ok, Err, OnErr, refl, sym, ap, ◌∙◌, subst, arith}
-use Rattle.cr_node.specs.Work.{Work, IsJob, IsDone}
-use Rattle.cr_model.specs.Nodes.{Splits, Independent}
+use Rattle.std.proofs.Common.{◌≡◌, ℕ, zero, suc, ◌+◌, ◌≤◌, Bool, true, false, List, set, replicate, Option, Some, None, Result, Ok, Err, OnErr, refl, sym, subst, arith}
+use Rattle.cr_node.specs.Work.{Work, IsDone}
+use Rattle.cr_model.specs.Nodes.{Splits}
 use Rattle.cr_model.specs.Sizes.{most_rows, size_of_all}
 use Rattle.cr_board.specs.Jobs.{JobParts, OpeningParts, IsOpening}
 use Rattle.cr_board.specs.declared.entry.Entry.{Entry}
-use Rattle.cr_board.specs.Boards.{BoardParts, held_at, opened, promised}
+use Rattle.cr_board.specs.Boards.{BoardParts, held_at, opened}
 use Rattle.cr_board.specs.Halls.{IsReplayed}
 use Rattle.cr_board.specs.Choices.{refusal_of, Stands}
-use Rattle.cr_board.specs.Partitions.{Partition, IsKept}
+use Rattle.cr_board.specs.Partitions.{IsKept}
 use Rattle.cr_board.specs.Moves.{taken_at, put_back, given_back, after_resigning, back_below, after_recall, handed_in, IsDue}
 use Rattle.cr_board.specs.declared.held.Held.{Held}
 use Rattle.cr_board.specs.declared.place.Place.{Place}
 use Rattle.cr_board.proofs.Parting.{AmongOthers}
-use Rattle.cr_board.proofs.Asking.{IsFree, free_from}
+use Rattle.cr_board.proofs.Asking.{free_from}
 use Rattle.cr_board.proofs.Moving.{after_take, after_hand}
-use Rattle.cr_board.proofs.Events.{after_giving, after_leaving, after_recalling, giving_keeps, below_keeps}
+use Rattle.cr_board.proofs.Events.{after_leaving, after_recalling, giving_keeps, below_keeps}
 use Rattle.cr_board.proofs.Openings.{opened_is}
 use Rattle.cr_board.proofs.Replaying.{take_replayed, back_replayed, hand_replayed, opened_replayed}
 
@@ -79,7 +79,7 @@ on_err (Err e) P p = p
 pub same_board : (o : OpeningParts) (lanes more : List (List JobParts)) (held other : List (Option Held)) (flags signs : List Bool) (found touches : List (List ℕ)) (spent next number : ℕ) (journal entries : List Entry)
     → lanes ≡ more → held ≡ other → flags ≡ signs → found ≡ touches → next ≡ number → journal ≡ entries
     → ◌≡◌ {A = BoardParts} (record { opening = o; lanes = lanes; held = held; resigned = flags; found = found; spent = spent; next = next; journal = journal })
-        (record { opening = o; lanes = more; held = other; resigned = signs; found = touches; spent = spent; next = number; journal = entries })
+    (record { opening = o; lanes = more; held = other; resigned = signs; found = touches; spent = spent; next = number; journal = entries })
 same_board o lanes more held other flags signs found touches spent next number journal entries a b c d e f =
     λ i. record { opening = o; lanes = a i; held = b i; resigned = c i; found = d i; spent = spent; next = e i; journal = f i }
 
@@ -87,8 +87,8 @@ pub due_keeps : AmongOthers → (b : BoardParts) (worker number : ℕ) (work : W
     → IsDone work.problem work.job work.found work.rest work.used → IsKept b → IsKept (handed_in b worker number work)
 due_keeps among b worker number work due done kept =
     subst (λ n. IsKept (handed_in b worker n work)) due.number_is
-      (hand_keeps among b worker due.held work due.holds
-        (subst (λ p. Splits p due.held.job.nodes work.found work.rest) due.problem (subst (λ j. Splits work.problem j work.found work.rest) due.job done.splits))
-        (subst (λ p. size_of_all p most_rows work.rest + work.used ≡ size_of_all p most_rows due.held.job.nodes) due.problem
-          (subst (λ j. size_of_all work.problem most_rows work.rest + work.used ≡ size_of_all work.problem most_rows j) due.job done.size))
-        due.within kept)
+    (hand_keeps among b worker due.held work due.holds
+    (subst (λ p. Splits p due.held.job.nodes work.found work.rest) due.problem (subst (λ j. Splits work.problem j work.found work.rest) due.job done.splits))
+    (subst (λ p. size_of_all p most_rows work.rest + work.used ≡ size_of_all p most_rows due.held.job.nodes) due.problem
+    (subst (λ j. size_of_all work.problem most_rows work.rest + work.used ≡ size_of_all work.problem most_rows j) due.job done.size))
+    due.within kept)

@@ -1,5 +1,5 @@
 -- The partition after a take, a Back and a hand-in.
-use Rattle.std.proofs.Common.{◌≡◌, ◌≢◌, ℕ, zero, suc, ◌+◌, ◌-◌, ◌/◌, ◌<◌, ◌≤◌, ◌⊎◌, Bool, true, false, cond, nat_eq, List, [], ◌∷◌, ◌++◌, length, get_or, set, take, drop, replicate, sum_by, count_by, flat_map, All, Option, Some, None, inl, inr, refl, sym, ap, ap₂, ◌∙◌, subst, arith, length-append, add-zero, eqb-true}
+use Rattle.std.proofs.Common.{◌≡◌, ◌≢◌, ℕ, ◌+◌, ◌/◌, ◌<◌, ◌≤◌, Bool, true, false, cond, nat_eq, List, [], ◌∷◌, ◌++◌, length, get_or, set, take, drop, sum_by, count_by, All, Option, Some, None, inl, inr, refl, sym, ap, ◌∙◌, subst, arith, length-append, add-zero, eqb-true}
 use Rattle.std.specs.Prelude.{remove}
 use Rattle.std.proofs.lemmas.Bool.{cases_eq, cases_lt, true≢false, eqb-false}
 use Rattle.std.proofs.lemmas.Option.{none-some}
@@ -9,9 +9,9 @@ use Rattle.cr_model.specs.Nodes.{is_prefix, IsValid, Independent, Splits}
 use Rattle.cr_model.specs.Sizes.{most_rows, size_of_all}
 use Rattle.cr_node.specs.Work.{Work, IsJob}
 use Rattle.cr_board.specs.Jobs.{JobParts, numbered, opening_nodes}
-use Rattle.cr_board.specs.Boards.{BoardParts, lane_at, held_at, held_jobs, jobs_in, nodes_in, jobs_of, nodes_of}
+use Rattle.cr_board.specs.Boards.{BoardParts, lane_at, held_at, jobs_in, nodes_in, jobs_of, nodes_of}
 use Rattle.cr_board.specs.Choices.{job_at, grant_now, Stands}
-use Rattle.cr_board.specs.Partitions.{Partition, HasShape}
+use Rattle.cr_board.specs.Partitions.{Partition}
 use Rattle.cr_board.specs.Moves.{taken_at, put_back, handed_in, halves}
 use Rattle.cr_board.specs.declared.held.Held.{Held}
 use Rattle.cr_board.specs.declared.place.Place.{Place}
@@ -152,9 +152,15 @@ module _ (b : BoardParts) (part : Partition b) where
     beside : HaveSame (nodes_of b) (nodes_in (jobs_in b.lanes (set b.held worker None)) ++ mine.job.nodes)
     beside f =
         let rest = jobs_in b.lanes (set b.held worker None) in
-        omega (arith, sum_by-append f (nodes_in rest) mine.job.nodes, sum_joined f (λ job. job.nodes) rest, sum_joined f (λ job. job.nodes) (jobs_of b),
-          held_less (λ job. sum_by f job.nodes) b.held worker mine inside holds, jobs_sum (λ job. sum_by f job.nodes) b.lanes b.held,
-          jobs_sum (λ job. sum_by f job.nodes) b.lanes (set b.held worker None))
+        omega (
+          arith,
+          sum_by-append f (nodes_in rest) mine.job.nodes,
+          sum_joined f (λ job. job.nodes) rest,
+          sum_joined f (λ job. job.nodes) (jobs_of b),
+          held_less (λ job. sum_by f job.nodes) b.held worker mine inside holds,
+          jobs_sum (λ job. sum_by f job.nodes) b.lanes b.held,
+          jobs_sum (λ job. sum_by f job.nodes) b.lanes (set b.held worker None),
+        )
 
     -- what a worker holds is a job
     pub is_job : IsJob b.opening.problem mine.job.nodes
@@ -170,17 +176,23 @@ module _ (b : BoardParts) (part : Partition b) where
             by : (e : Bool) → is_empty mine.job ≡ e → cond {A = ℕ} e 1 0 ≡ 0 → 0 < length mine.job.nodes
             by true e one = absurd (omega (arith, one))
             by false e one = let differ = eqb-false (length mine.job.nodes) 0 e in omega (arith, differ)
+
         valid : All (IsValid b.opening.problem) mine.job.nodes
         valid k d within =
             let before = nodes_in (jobs_in b.lanes (set b.held worker None)) in
             let whole = same_all (IsValid b.opening.problem) (nodes_of b) (before ++ mine.job.nodes) beside part.nodes.valid in
             subst (IsValid b.opening.problem) (get_or-append-add before mine.job.nodes k d) (whole (length before + k) d (omega (arith, length-append before mine.job.nodes)))
+
         independent : Independent b.opening.problem [] mine.job.nodes
         independent = from_counts b.opening.problem [] mine.job.nodes
             (λ word.
-              let before = nodes_in (jobs_in b.lanes (set b.held worker None)) in
-              omega (arith, one_begins_each b.opening.problem b.found (nodes_of b) part.nodes.independent word, beside (λ node. cond (is_prefix node word) 1 0),
-                sum_by-append (λ node. cond (is_prefix node word) 1 0) before mine.job.nodes))
+            let before = nodes_in (jobs_in b.lanes (set b.held worker None)) in
+            omega (
+              arith,
+              one_begins_each b.opening.problem b.found (nodes_of b) part.nodes.independent word,
+              beside (λ node. cond (is_prefix node word) 1 0),
+              sum_by-append (λ node. cond (is_prefix node word) 1 0) before mine.job.nodes,
+            ))
             (λ j outside. absurd (omega arith))
 
     module _ (among : AmongOthers) (number : ℕ) (work : Work) (splits : Splits b.opening.problem mine.job.nodes work.found work.rest)
@@ -199,8 +211,12 @@ module _ (b : BoardParts) (part : Partition b) where
       -- and over those after
       after_sum : (f : JobParts → ℕ) → sum_by f (jobs_of (handed_in b worker number work))
           ≡ sum_by f (jobs_in b.lanes (set b.held worker None)) + sum_by f (numbered b.next (halves work.rest))
-      after_sum f = omega (arith, lane_put f b.lanes worker (numbered b.next (halves work.rest)) inside_lanes,
-          jobs_sum f (handed_in b worker number work).lanes (handed_in b worker number work).held, jobs_sum f b.lanes (set b.held worker None))
+      after_sum f = omega (
+        arith,
+        lane_put f b.lanes worker (numbered b.next (halves work.rest)) inside_lanes,
+        jobs_sum f (handed_in b worker number work).lanes (handed_in b worker number work).held,
+        jobs_sum f b.lanes (set b.held worker None),
+      )
 
       pub after_hand : Partition (handed_in b worker number work)
       after_hand = record {
@@ -211,19 +227,19 @@ module _ (b : BoardParts) (part : Partition b) where
         };
         nodes = moved b.opening.problem b.opening.found (opening_nodes b.opening) (b.found ++ work.found) (nodes_in others ++ work.rest) (nodes_of after) (b.spent + work.used)
             (λ f. let joined = sum_by-append f (nodes_in others) work.rest in
-              let left = sum_joined f (λ job. job.nodes) others in
-              let whole = sum_joined f (λ job. job.nodes) (jobs_of after) in
-              omega (arith, joined, left, whole, after_sum (λ job. sum_by f job.nodes), halves_sum f b.next work.rest))
+            let left = sum_joined f (λ job. job.nodes) others in
+            let whole = sum_joined f (λ job. job.nodes) (jobs_of after) in
+            omega (arith, joined, left, whole, after_sum (λ job. sum_by f job.nodes), halves_sum f b.next work.rest))
             (handed_over among b.opening.problem b.opening.found (opening_nodes b.opening) b.found mine.job.nodes work.found work.rest (nodes_in others) b.spent work.used
-              (moved b.opening.problem b.opening.found (opening_nodes b.opening) b.found (nodes_of b) (nodes_in others ++ mine.job.nodes) b.spent
-                (λ f. let joined = sum_by-append f (nodes_in others) mine.job.nodes in
-                  let left = sum_joined f (λ job. job.nodes) others in
-                  let whole = sum_joined f (λ job. job.nodes) (jobs_of b) in
-                  omega (arith, joined, left, whole, before_sum (λ job. sum_by f job.nodes)))
-                part.nodes)
-              splits sizes);
+            (moved b.opening.problem b.opening.found (opening_nodes b.opening) b.found (nodes_of b) (nodes_in others ++ mine.job.nodes) b.spent
+            (λ f. let joined = sum_by-append f (nodes_in others) mine.job.nodes in
+            let left = sum_joined f (λ job. job.nodes) others in
+            let whole = sum_joined f (λ job. job.nodes) (jobs_of b) in
+            omega (arith, joined, left, whole, before_sum (λ job. sum_by f job.nodes)))
+            part.nodes)
+            splits sizes);
         filled = count_filled (jobs_of after)
             (let none = filled_count (jobs_of b) part.filled in
-              omega (arith, after_sum (λ job. cond (is_empty job) 1 0), before_sum (λ job. cond (is_empty job) 1 0), halves_filled b.next work.rest, none));
+            omega (arith, after_sum (λ job. cond (is_empty job) 1 0), before_sum (λ job. cond (is_empty job) 1 0), halves_filled b.next work.rest, none));
         resigned = lets_go;
       }

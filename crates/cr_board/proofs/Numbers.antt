@@ -1,5 +1,5 @@
 -- Job numbers: how often each stands in a lane.
-use Rattle.std.proofs.Common.{◌≡◌, ℕ, zero, suc, ◌+◌, ◌-◌, ◌<◌, ◌≤◌, Bool, true, false, cond, nat_eq, List, [], ◌∷◌, ◌++◌, length, get_or, map, take, drop, count_by, Contains, refl, sym, ap, ◌∙◌, subst, arith, eqb-true, eq-eqb}
+use Rattle.std.proofs.Common.{◌≡◌, ℕ, zero, suc, ◌+◌, ◌<◌, ◌≤◌, Bool, true, false, cond, nat_eq, List, [], ◌∷◌, ◌++◌, length, get_or, count_by, Contains, refl, sym, ap, ◌∙◌, arith, eqb-true, eq-eqb}
 use Rattle.std.specs.Prelude.{remove}
 use Rattle.std.specs.List.{range_with_len}
 use Rattle.std.proofs.lemmas.Bool.{ne_eqb, eqb-false}
@@ -61,9 +61,9 @@ times_range number from (suc count) = by (nat_eq from number) refl (times_range 
   where
     by : (b : Bool) → nat_eq from number ≡ b
         → (times number (range_with_len (from + 1) count) ≤ 1) × (number < from + 1 → times number (range_with_len (from + 1) count) ≡ 0)
-          × (from + 1 + count ≤ number → times number (range_with_len (from + 1) count) ≡ 0)
+        × (from + 1 + count ≤ number → times number (range_with_len (from + 1) count) ≡ 0)
         → (times number (range_with_len from (suc count)) ≤ 1) × (number < from → times number (range_with_len from (suc count)) ≡ 0)
-          × (from + suc count ≤ number → times number (range_with_len from (suc count)) ≡ 0)
+        × (from + suc count ≤ number → times number (range_with_len from (suc count)) ≡ 0)
     by true e (few, low, high) =
         let same = eqb-true from number e in
         let none = low (omega arith) in

@@ -1,9 +1,10 @@
 -- The board that an opening gives has the partition.
-use Rattle.std.proofs.Common.{◌≡◌, ℕ, zero, suc, ◌+◌, ◌*◌, ◌<◌, ◌≤◌, true, false, cond, List, [], ◌∷◌, ◌++◌, length, get_or, set, replicate, sum_by, count_by, All, Option, None, inl, inr, refl, sym, ap, ◌∙◌, subst, arith, add-zero}
-use Rattle.std.proofs.lemmas.Bool.{cases_lt, true≢false}
-use Rattle.std.proofs.lemmas.List.{length-set, length-replicate, get_or-replicate, get_or_past}
+use Rattle.std.proofs.Common.{◌≡◌, ℕ, zero, suc, ◌+◌, ◌<◌, ◌≤◌, false, cond, List, [], ◌∷◌, length, get_or, replicate, sum_by, count_by, All, Option, None, inl, inr, refl, sym, ap, ◌∙◌, subst, arith}
+use Rattle.std.proofs.lemmas.Bool.{cases_lt}
+use Rattle.std.proofs.lemmas.List.{length-set, length-replicate, get_or-replicate, get_or_past, append-nil}
 use Rattle.std.proofs.lemmas.List.Sums.{sum_by-cons, sum_by-set}
 use Rattle.std.proofs.lemmas.List.Folds.{sum_by-replicate}
+use Rattle.std.proofs.lemmas.List.Concat.{flat_map-cons}
 use Rattle.cr_model.specs.Problems.{ProblemParts}
 use Rattle.std.specs.List.Sorted.{IsStrictlySortedBy}
 use Rattle.std.specs.declared.cmp.Ordering.{Ordering}
@@ -34,8 +35,13 @@ at_first p found nodes kept independent valid = record {
 numbered_sum : (f : JobParts → ℕ) (g : List (List ℕ) → ℕ) → ((job : JobParts) → f job ≡ g job.nodes) → (next : ℕ) (jobs : List (List (List ℕ))) → sum_by f (numbered next jobs) ≡ sum_by g jobs
 numbered_sum f g same next [] = refl
 numbered_sum f g same next (nodes ∷ jobs) =
-    omega (arith, sum_by-cons f (record { number = next; nodes = nodes }) (numbered (next + 1) jobs), sum_by-cons g nodes jobs,
-      numbered_sum f g same (next + 1) jobs, same (record { number = next; nodes = nodes }))
+    omega (
+      arith,
+      sum_by-cons f (record { number = next; nodes = nodes }) (numbered (next + 1) jobs),
+      sum_by-cons g nodes jobs,
+      numbered_sum f g same (next + 1) jobs,
+      same (record { number = next; nodes = nodes }),
+    )
 
 -- the jobs of the board that an opening gives
 opened_sum : (o : OpeningParts) → 1 ≤ o.workers → (f : JobParts → ℕ) → sum_by f (jobs_of (opened o)) ≡ sum_by f (numbered 0 o.jobs)
@@ -80,22 +86,25 @@ opened_is o opening = record {
     ]
 
 -- no touch stands in order
-none_ascend : {K : Type 0} (cmp : K → K → Ordering) → IsStrictlySortedBy cmp []
+pub none_ascend : {K : Type 0} (cmp : K → K → Ordering) → IsStrictlySortedBy cmp []
 unfolding IsStrictlySortedBy
 none_ascend cmp = tt
 
--- what the root makes is an opening
-pub fresh_is : (p : ProblemParts) (budget : Option ℕ) (workers : ℕ) → IsJob p ([] ∷ []) → 1 ≤ workers → workers ≤ 64 → IsOpening (opening_from p [] (([] ∷ []) ∷ []) budget workers)
-fresh_is p budget workers job some few = record {
+-- one job is an opening
+pub one_job_opens : (p : ProblemParts) (nodes : List (List ℕ)) (budget : Option ℕ) (workers : ℕ) → IsJob p nodes → 1 ≤ workers → workers ≤ 64 → IsOpening (opening_from p [] (nodes ∷ []) budget workers)
+one_job_opens p nodes budget workers job some few = record {
   kept = All-nil (Kept p);
   ascending = none_ascend (book_order p);
   filled = λ k d inside. one k d inside;
-  valid = job.valid;
-  independent = job.independent;
+  valid = subst (All (IsValid p)) (sym alone) job.valid;
+  independent = subst (Independent p []) (sym alone) job.independent;
   some = some;
   few = few;
 }
   where
-    one : (k : ℕ) (d : List (List ℕ)) → k < 1 → 0 < length (get_or (([] ∷ []) ∷ []) k d)
-    one zero d inside = omega arith
+    alone : opening_nodes (opening_from p [] (nodes ∷ []) budget workers) ≡ nodes
+    alone = flat_map-cons (λ j. j) nodes [] ∙ append-nil nodes
+
+    one : (k : ℕ) (d : List (List ℕ)) → k < 1 → 0 < length (get_or (nodes ∷ []) k d)
+    one zero d inside = job.some
     one (suc k) d inside = absurd (omega arith)

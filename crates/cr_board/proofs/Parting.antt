@@ -1,12 +1,12 @@
 -- A partition is kept where the same nodes stand elsewhere, and where work on some of them is handed in.
-use Rattle.std.proofs.Common.{◌≡◌, ℕ, ◌+◌, ◌-◌, ◌<◌, ◌≤◌, false, cond, List, [], ◌++◌, length, get_or, sum_by, All, inl, inr, refl, sym, ap, ◌∙◌, subst, bytes_eq, arith, length-append}
+use Rattle.std.proofs.Common.{◌≡◌, ℕ, ◌+◌, ◌-◌, ◌<◌, false, cond, List, [], ◌++◌, length, get_or, All, inl, inr, refl, ap, ◌∙◌, subst, bytes_eq, arith, length-append}
 use Rattle.std.proofs.lemmas.Bool.{cases_lt}
 use Rattle.std.proofs.lemmas.List.{get_or_append_left, get_or-append_right}
 use Rattle.std.proofs.lemmas.List.Elements.{All-append}
 use Rattle.std.proofs.lemmas.List.Sums.{sum_by-append}
 use Rattle.cr_model.specs.Problems.{ProblemParts}
 use Rattle.cr_model.specs.Touches.{Kept}
-use Rattle.cr_model.specs.Nodes.{is_above, IsValid, nodes_above, times_found, Independent, Splits}
+use Rattle.cr_model.specs.Nodes.{is_above, IsValid, times_found, Independent, Splits}
 use Rattle.cr_model.specs.Sizes.{most_rows, size, size_of_all}
 use Rattle.cr_board.specs.Partitions.{IsPartition}
 use Rattle.cr_board.proofs.Sums.{HaveSame}

@@ -1,14 +1,13 @@
 -- Items read by an index, as clauses say them.
-use Rattle.std.proofs.Common.{◌≡◌, ℕ, zero, suc, ◌+◌, ◌-◌, ◌<◌, ◌≤◌, Bool, true, false, nat_eq, nat_lt, List, [], ◌∷◌, ◌++◌, length, get_or, set, map, take, replicate, Option, Some, None, is_some, vec_len, refl, sym, ap, ap₂, ◌∙◌, subst, arith, eq-eqb}
+use Rattle.std.proofs.Common.{◌≡◌, ℕ, zero, suc, ◌+◌, ◌-◌, ◌<◌, ◌≤◌, true, false, List, [], ◌∷◌, ◌++◌, length, get_or, set, map, take, replicate, vec_len, refl, sym, ap, ap₂, ◌∙◌, subst, arith}
 use Rattle.std.specs.Prelude.{◌==◌}
 use Rattle.std.specs.Global.{Vec}
 use Rattle.std.proofs.lemmas.Bool.{lt-ltb, le-ltb, ltb-true, eqb-true, eqb-false}
 use Rattle.std.proofs.lemmas.List.{get_or_default, get_or-map, map-append, take_more, replicate_more, get_or-set_same, append_assoc}
 use Rattle.cr_board.specs.Jobs.{JobParts, numbered}
-use Rattle.cr_board.specs.Boards.{lane_at, held_at}
-use Rattle.cr_board.specs.Choices.{is_busy, is_holding, is_number}
+use Rattle.cr_board.specs.Boards.{lane_at}
+use Rattle.cr_board.specs.Choices.{is_busy}
 use Rattle.cr_board.specs.Rooms.{jobs_on}
-use Rattle.cr_board.specs.declared.held.Held.{Held}
 
 -- an item that was read, at any default
 pub read_at : {X : Type 0} (xs : List X) (i : ℕ) (x d : X) → i < length xs → x ≡ get_or xs i x → get_or xs i d ≡ x

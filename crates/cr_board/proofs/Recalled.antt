@@ -1,8 +1,7 @@
 -- What a recall leaves, lane by lane.
-use Rattle.std.proofs.Common.{◌≡◌, ◌≢◌, ℕ, zero, suc, ◌+◌, ◌-◌, ◌<◌, ◌≤◌, List, [], ◌∷◌, ◌++◌, length, get_or, set, take, drop, replicate, Option, Some, None, inl, inr, refl, sym, ap, ap₂, ◌∙◌, subst, arith, append-nil}
+use Rattle.std.proofs.Common.{◌≡◌, ◌≢◌, ℕ, zero, suc, ◌+◌, ◌<◌, ◌≤◌, List, [], ◌∷◌, ◌++◌, length, take, Option, Some, None, inl, inr, refl, sym, ap, ap₂, ◌∙◌, arith, append-nil}
 use Rattle.std.proofs.lemmas.Bool.{cases_lt, cases_eq}
-use Rattle.std.proofs.lemmas.List.{get_or-set_same, get_or-set_other, set-get_or, length-set, take_more, append_assoc, get_or_past, length-take-le, take_all}
-use Rattle.cr_board.specs.Jobs.{JobParts}
+use Rattle.std.proofs.lemmas.List.{get_or-set_same, get_or-set_other, length-set, take_more, append_assoc, get_or_past, length-take-le, take_all}
 use Rattle.cr_board.specs.Boards.{BoardParts, lane_at, held_at, held_jobs}
 use Rattle.cr_board.specs.Halls.{backs}
 use Rattle.cr_board.specs.Moves.{put_back, given_back, back_below, after_recall}
@@ -91,8 +90,8 @@ module _ (b : BoardParts) (shape : length b.lanes ≡ length b.held) (worker : �
     | inl e ↦ (
       ap (λ k. held_at (given_back m worker).held k) e ∙ gives_nothing_left m worker inside within,
       ap (λ k. lane_at (given_back m worker).lanes k) e ∙ gives_own m worker inside within
-        ∙ ap₂ (λ l h. l ++ held_jobs h) (before.others worker (omega arith)).1 (before.others worker (omega arith)).0
-        ∙ ap (λ k. lane_at b.lanes k ++ held_jobs (held_at b.held k)) (sym e),
+          ∙ ap₂ (λ l h. l ++ held_jobs h) (before.others worker (omega arith)).1 (before.others worker (omega arith)).0
+          ∙ ap (λ k. lane_at b.lanes k ++ held_jobs (held_at b.held k)) (sym e),
     )
     | inr differ ↦
         let same = gives_other m worker inside within other differ in

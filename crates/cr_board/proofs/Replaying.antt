@@ -1,14 +1,13 @@
 -- The journal tells the board after a take, a Back and a hand-in.
-use Rattle.std.proofs.Common.{◌≡◌, ◌≢◌, ℕ, zero, suc, ◌+◌, ◌-◌, ◌/◌, ◌<◌, ◌≤◌, min, Bool, true, false, cond, nat_eq, List, [], ◌∷◌, ◌++◌, length, get_or, set, map, replicate, sum_by, Contains, Option, Some, None, inl, inr, refl, sym, ap, ap₂, ◌∙◌, subst, arith, length-append}
+use Rattle.std.proofs.Common.{◌≡◌, ◌≢◌, ℕ, zero, suc, ◌+◌, ◌<◌, ◌≤◌, false, List, [], ◌∷◌, ◌++◌, length, get_or, set, map, replicate, sum_by, Contains, Option, Some, None, refl, sym, ap, ap₂, ◌∙◌, subst, arith, length-append}
 use Rattle.std.specs.Prelude.{remove}
-use Rattle.std.specs.List.{range_with_len}
 use Rattle.std.proofs.lemmas.Bool.{eqb-false}
 use Rattle.std.proofs.lemmas.List.{map-set, map-append, append-nil, append_assoc, get_or-map, length-map}
 use Rattle.std.proofs.lemmas.List.Sums.{sum_by_push, sum_by-cons, sum_by-set}
 use Rattle.cr_node.specs.Work.{Work}
 use Rattle.cr_board.specs.Jobs.{JobParts, OpeningParts, numbered}
 use Rattle.cr_board.specs.Boards.{BoardParts, lane_at, held_at, held_grant, promised, opened}
-use Rattle.cr_board.specs.Halls.{Grip, Hall, numbers_at, grip_at, grant_of, granted, without, CanTake, HoldsFor, IsAllowed, after_entry, start, after_entries, AreAllowed, replay, grip_of, numbers_of, hall_of, touches_of, IsReplayed}
+use Rattle.cr_board.specs.Halls.{Grip, Hall, grip_at, grant_of, granted, without, CanTake, IsAllowed, after_entry, start, after_entries, AreAllowed, grip_of, numbers_of, hall_of, touches_of, IsReplayed}
 use Rattle.cr_board.specs.Choices.{is_spent, job_at, grant_now, Stands}
 use Rattle.cr_board.specs.Moves.{taken_at, put_back, handed_in, halves}
 use Rattle.cr_board.specs.declared.held.Held.{Held}
@@ -72,9 +71,11 @@ module _ (b : BoardParts) (replayed : IsReplayed b) where
     allowed = allowed_more b.opening (start b.opening) b.journal entry replayed.allowed (subst (λ h. IsAllowed b.opening h entry) replayed.hall allowed);
     hall = is ∙ ap (λ h. after_entry h entry) replayed.hall ∙ sym (after_more (start b.opening) b.journal entry);
     found =
-        let (before, is_before, many) = replayed.found in
-        (before ++ more, found_is ∙ ap (λ l. l ++ more) is_before ∙ append_assoc b.opening.found before more,
-          omega (arith, length-append before more, many, touches, sum_by_push touches_of b.journal entry));
+        let (before, is_before, many) = replayed.found in (
+          before ++ more,
+          found_is ∙ ap (λ l. l ++ more) is_before ∙ append_assoc b.opening.found before more,
+          omega (arith, length-append before more, many, touches, sum_by_push touches_of b.journal entry),
+        );
   }
 
   module _ (worker : ℕ) (place : Place) (free : IsFree b worker) (stands : Stands b.lanes place) where
@@ -98,7 +99,7 @@ module _ (b : BoardParts) (replayed : IsReplayed b) where
     lanes_are : map numbers_of (set b.lanes place.lane (remove (lane_at b.lanes place.lane) place.place)) ≡ set (map numbers_of b.lanes) place.lane (without number (get_or (map numbers_of b.lanes) place.lane []))
     lanes_are = map-set numbers_of b.lanes place.lane (remove (lane_at b.lanes place.lane) place.place)
         ∙ ap (set (map numbers_of b.lanes) place.lane) (removed_is_without (lane_at b.lanes place.lane) place.place (record { number = 0; nodes = [] }) stands.place once
-          ∙ ap (without number) (sym (numbers_at_is b.lanes place.lane)))
+        ∙ ap (without number) (sym (numbers_at_is b.lanes place.lane)))
 
     -- what is granted is something
     some_granted : (budget : Option ℕ) → Within budget (promised b) → is_spent budget (promised b) ≡ false → 0 < granted budget (promised b)
@@ -111,9 +112,11 @@ module _ (b : BoardParts) (replayed : IsReplayed b) where
     can = record {
       worker = free.worker;
       idle = grip_at_is b.held worker ∙ ap grip_of free.idle;
-      stands = subst (λ l. Contains l number) (sym (numbers_at_is b.lanes place.lane))
-          (place.place, omega (arith, length-map (lane_at b.lanes place.lane) (λ j. j.number), stands.place),
-            get_or-map (λ j. j.number) (lane_at b.lanes place.lane) place.place (record { number = 0; nodes = [] }) number stands.place);
+      stands = subst (λ l. Contains l number) (sym (numbers_at_is b.lanes place.lane)) (
+        place.place,
+        omega (arith, length-map (lane_at b.lanes place.lane) (λ j. j.number), stands.place),
+        get_or-map (λ j. j.number) (lane_at b.lanes place.lane) place.place (record { number = 0; nodes = [] }) number stands.place,
+      );
       grant = ap (λ n. granted b.opening.budget (b.spent + n)) (sym (grants_are b.held));
       some = some_granted b.opening.budget (promised_within (omega (arith, free.worker))) free.left;
     }
@@ -134,9 +137,9 @@ module _ (b : BoardParts) (replayed : IsReplayed b) where
     back_replayed = replayed_more (Back worker mine.job.number) (set b.lanes worker (lane_at b.lanes worker ++ mine.job ∷ [])) (set b.held worker None) [] b.next b.spent
         (mine.grant, gripped, omega arith)
         (same_hall _ _ _ _ b.next b.spent
-          (map-set numbers_of b.lanes worker (lane_at b.lanes worker ++ mine.job ∷ [])
-            ∙ ap (set (map numbers_of b.lanes) worker) (map-append (λ j. j.number) (lane_at b.lanes worker) (mine.job ∷ []) ∙ ap (λ l. l ++ mine.job.number ∷ []) (sym (numbers_at_is b.lanes worker))))
-          (map-set grip_of b.held worker None))
+        (map-set numbers_of b.lanes worker (lane_at b.lanes worker ++ mine.job ∷ [])
+        ∙ ap (set (map numbers_of b.lanes) worker) (map-append (λ j. j.number) (lane_at b.lanes worker) (mine.job ∷ []) ∙ ap (λ l. l ++ mine.job.number ∷ []) (sym (numbers_at_is b.lanes worker))))
+        (map-set grip_of b.held worker None))
         refl b.found (sym (append-nil b.found))
 
     few_halves : (rest : List (List ℕ)) → length (halves rest) ≤ 2
@@ -150,10 +153,10 @@ module _ (b : BoardParts) (replayed : IsReplayed b) where
         (set b.lanes worker (lane_at b.lanes worker ++ numbered b.next (halves work.rest))) (set b.held worker None) work.found (b.next + length (halves work.rest)) (b.spent + work.used)
         ((mine.grant, gripped, within), few_halves work.rest)
         (same_hall _ _ _ _ (b.next + length (halves work.rest)) (b.spent + work.used)
-          (map-set numbers_of b.lanes worker (lane_at b.lanes worker ++ numbered b.next (halves work.rest))
-            ∙ ap (set (map numbers_of b.lanes) worker) (map-append (λ j. j.number) (lane_at b.lanes worker) (numbered b.next (halves work.rest))
-              ∙ ap₂ (λ l k. l ++ k) (sym (numbers_at_is b.lanes worker)) (numbers_are b.next (halves work.rest))))
-          (map-set grip_of b.held worker None))
+        (map-set numbers_of b.lanes worker (lane_at b.lanes worker ++ numbered b.next (halves work.rest))
+        ∙ ap (set (map numbers_of b.lanes) worker) (map-append (λ j. j.number) (lane_at b.lanes worker) (numbered b.next (halves work.rest))
+        ∙ ap₂ (λ l k. l ++ k) (sym (numbers_at_is b.lanes worker)) (numbers_are b.next (halves work.rest))))
+        (map-set grip_of b.held worker None))
         refl (b.found ++ work.found) refl
 
 -- the board that an opening gives

@@ -1,10 +1,8 @@
 -- A number has no place exactly where it stands in no lane.
-use Rattle.std.proofs.Common.{◌≡◌, ℕ, zero, suc, ◌+◌, ◌-◌, ◌<◌, ◌≤◌, Bool, true, false, nat_eq, List, [], ◌∷◌, length, get_or, map, Contains, Option, Some, None, is_some, option_map, ◌↔◌, inl, inr, refl, sym, ap, ◌∙◌, subst, arith, eq-eqb, eqb-true}
-use Rattle.std.specs.Prelude.{find}
-use Rattle.std.specs.List.{range_with_len}
+use Rattle.std.proofs.Common.{◌≡◌, ℕ, ◌+◌, ◌-◌, ◌<◌, true, false, List, [], length, get_or, Contains, Option, Some, None, is_some, option_map, ◌↔◌, inl, inr, refl, sym, ap, ◌∙◌, arith, eq-eqb, eqb-true}
 use Rattle.std.proofs.lemmas.Bool.{cases_lt, true≢false, false≢true}
 use Rattle.std.proofs.lemmas.Option.{none-some}
-use Rattle.std.proofs.lemmas.List.{get_or-map, get_or_default, get_or_past, length-map}
+use Rattle.std.proofs.lemmas.List.{get_or-map, get_or_past, length-map}
 use Rattle.cr_board.specs.Jobs.{JobParts}
 use Rattle.cr_board.specs.Boards.{BoardParts, lane_at}
 use Rattle.cr_board.specs.Halls.{numbers_of}
@@ -25,9 +23,11 @@ has_place lane number (k, inside, at) none =
 place_has : (lane : List JobParts) (number k : ℕ) → place_in lane number ≡ Some k → Contains (numbers_of lane) number
 place_has lane number k found =
     let (passes, low, high) = found_passes (is_number lane number) 0 (length lane - 0) k found in
-    let within : k < length lane = omega arith in
-    (k, omega (arith, within, length-map lane (λ j. j.number)),
-      get_or-map (λ j. j.number) lane k (record { number = 0; nodes = [] }) number within ∙ eqb-true (get_or lane k (record { number = 0; nodes = [] })).number number passes)
+    let within : k < length lane = omega arith in (
+      k,
+      omega (arith, within, length-map lane (λ j. j.number)),
+      get_or-map (λ j. j.number) lane k (record { number = 0; nodes = [] }) number within ∙ eqb-true (get_or lane k (record { number = 0; nodes = [] })).number number passes,
+    )
 
 module _ (b : BoardParts) (number : ℕ) (lanes : length b.lanes ≡ b.opening.workers) where
   -- no place, so it stands nowhere
@@ -40,11 +40,13 @@ module _ (b : BoardParts) (number : ℕ) (lanes : length b.lanes ≡ b.opening.w
       here : (k : Option ℕ) → place_in (lane_at b.lanes lane) number ≡ k → has_number b.lanes number lane ≡ false → ⊥
       here None e fails = has_place (lane_at b.lanes lane) number held e
       here (Some k) e fails = true≢false (sym (ap is_some e) ∙ fails)
+
       inner : (at : ℕ) (k : Option ℕ) → place_in (lane_at b.lanes at) number ≡ k → is_some k ≡ true → place_at b.lanes number (Some at) ≡ None → ⊥
       inner at None e some h = false≢true some
       inner at (Some k) e some h =
           let place : ℕ → Place = λ p. record { lane = at; place = p } in
           none-some (place k) (sym (sym (ap (option_map place) e) ∙ h))
+
       by : (found : Option ℕ) → first_from (has_number b.lanes number) 0 b.opening.workers ≡ found → lane < b.opening.workers → ⊥
       by None e inside =
           let place : 0 + lane ≡ lane = omega arith in

@@ -1,7 +1,7 @@
 -- Sums over the jobs and nodes of a board.
 use Rattle.std.proofs.Common.{◌≡◌, ℕ, ◌+◌, ◌<◌, List, [], ◌∷◌, ◌++◌, length, get_or, set, sum_by, flat_map, Option, Some, None, refl, sym, ap, ap₂, ◌∙◌, arith}
 use Rattle.std.specs.Prelude.{remove}
-use Rattle.std.proofs.lemmas.List.Sums.{sum_by-append, sum_by-cons, sum_by-set, sum_by-remove, sum_by_push}
+use Rattle.std.proofs.lemmas.List.Sums.{sum_by-append, sum_by-cons, sum_by-set, sum_by-remove}
 use Rattle.std.proofs.lemmas.List.Concat.{flat_map-cons}
 use Rattle.cr_board.specs.Jobs.{JobParts}
 use Rattle.cr_board.specs.Boards.{lane_at, held_at, held_jobs, jobs_in, nodes_in}

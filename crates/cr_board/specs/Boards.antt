@@ -1,5 +1,5 @@
 -- A board as the record of its parts.
-use Rattle.std.specs.Prelude.{◌≡◌, ℕ, ◌+◌, Bool, false, List, [], ◌∷◌, ◌++◌, length, get_or, map, set, replicate, flat_map, sum_by, Option, Some, None}
+use Rattle.std.specs.Prelude.{ℕ, ◌+◌, Bool, false, List, [], ◌∷◌, ◌++◌, length, get_or, set, replicate, flat_map, sum_by, Option, Some, None}
 use Rattle.cr_board.specs.Jobs.{JobParts, OpeningParts, numbered}
 use Rattle.cr_board.specs.declared.held.Held.{Held}
 use Rattle.cr_board.specs.declared.entry.Entry.{Entry}

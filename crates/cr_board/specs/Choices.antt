@@ -1,5 +1,5 @@
 -- What a board answers to a worker that asks for a job.
-use Rattle.std.specs.Prelude.{◌≡◌, ℕ, ◌+◌, ◌-◌, ◌<◌, Bool, true, false, cond, not, ◌||◌, nat_eq, nat_lt, List, [], ◌++◌, length, get_or, find, Option, Some, None, is_some, option_map, ⊤}
+use Rattle.std.specs.Prelude.{ℕ, ◌-◌, ◌<◌, Bool, false, cond, not, ◌||◌, nat_eq, nat_lt, List, [], ◌++◌, length, get_or, find, Option, Some, None, is_some, option_map, ⊤}
 use Rattle.std.specs.List.{range_with_len}
 use Rattle.cr_board.specs.Jobs.{JobParts, TicketParts}
 use Rattle.cr_board.specs.Boards.{BoardParts, lane_at, held_at, promised}

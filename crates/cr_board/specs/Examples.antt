@@ -1,5 +1,5 @@
 -- A problem on three bells, an opening of two jobs, and what happens on its board.
-use Rattle.std.specs.Prelude.{ℕ, List, [], ◌∷◌, map, Option, None}
+use Rattle.std.specs.Prelude.{ℕ, List, [], ◌∷◌, map, Option}
 use Rattle.cr_row.specs.Rows.{Places}
 use Rattle.cr_model.specs.Problems.{LeadParts, ProblemParts}
 use Rattle.cr_model.specs.Examples.{asks}

@@ -1,7 +1,7 @@
 -- The board after a take, a hand-in, a resignation and a recall.
-use Rattle.std.specs.Prelude.{◌≡◌, ◌≢◌, ℕ, zero, suc, ◌+◌, ◌/◌, ◌<◌, ◌≤◌, ◌⊎◌, Bool, true, false, cond, nat_lt, List, [], ◌∷◌, ◌++◌, length, take, drop, set, remove, replicate, Option, Some, None, option_map}
+use Rattle.std.specs.Prelude.{◌≡◌, ◌≢◌, ℕ, zero, suc, ◌+◌, ◌/◌, ◌<◌, ◌≤◌, true, false, List, [], ◌∷◌, ◌++◌, length, take, drop, set, remove, replicate, Option, Some, None, option_map}
 use Rattle.cr_node.specs.Work.{Work}
-use Rattle.cr_board.specs.Jobs.{JobParts, numbered}
+use Rattle.cr_board.specs.Jobs.{numbered}
 use Rattle.cr_board.specs.Boards.{BoardParts, lane_at, held_at}
 use Rattle.cr_board.specs.Choices.{refusal_of, next_place, claim_place, job_at, grant_now}
 use Rattle.cr_board.specs.declared.held.Held.{Held}

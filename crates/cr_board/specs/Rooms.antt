@@ -1,8 +1,8 @@
 -- The room that jobs which are held need to go back.
-use Rattle.std.specs.Prelude.{◌≡◌, ℕ, ◌+◌, ◌^◌, ◌<◌, ◌≤◌, cond, List, get_or, map, sum_by, Option, Some, None, is_some, true, Bool, vec_len, vec_capacity}
+use Rattle.std.specs.Prelude.{◌≡◌, ℕ, ◌+◌, ◌^◌, ◌<◌, ◌≤◌, cond, List, get_or, map, sum_by, Option, is_some, true, vec_len, vec_capacity}
 use Rattle.std.specs.Global.{Vec}
 use Rattle.cr_board.specs.Jobs.{JobParts, OpeningParts}
-use Rattle.cr_board.specs.Boards.{BoardParts, held_at}
+use Rattle.cr_board.specs.Boards.{BoardParts}
 use Rattle.cr_board.specs.Partitions.{IsKept}
 use Rattle.cr_board.specs.Choices.{is_holding}
 use Rattle.cr_board.specs.declared.held.Held.{Held}

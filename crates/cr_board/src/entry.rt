@@ -19,5 +19,8 @@ pub enum Entry {
         opened: u64,
     },
     /// A job went back to its worker's lane.
-    Back { worker: u32, job: u64 },
+    Back {
+        worker: u32,
+        job: u64,
+    },
 }

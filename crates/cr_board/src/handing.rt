@@ -179,7 +179,14 @@ fn push_opened(lanes: &mut Vec<Vec<LaneJob>>, worker: usize, next: u64, opened: 
     match opened {
         Opened::Nothing => 0,
         Opened::Whole(nodes) => {
-            push_job(lanes, worker, LaneJob { number: next, nodes });
+            push_job(
+                lanes,
+                worker,
+                LaneJob {
+                    number: next,
+                    nodes,
+                },
+            );
             1
         }
         Opened::Halves(first, second) => {

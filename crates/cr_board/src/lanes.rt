@@ -65,7 +65,11 @@ pub fn take_job(lanes: &mut Vec<Vec<LaneJob>>, place: Place) -> LaneJob
 }
 
 /// Makes room for so many jobs more in a lane. The room of all lanes stays. Err where no memory is left.
-pub fn reserve_lane(lanes: &mut Vec<Vec<LaneJob>>, worker: usize, more: usize) -> Result<(), NoMemory>
+pub fn reserve_lane(
+    lanes: &mut Vec<Vec<LaneJob>>,
+    worker: usize,
+    more: usize,
+) -> Result<(), NoMemory>
     requires { worker < vec_len lanes.old }
     ensures same { jobs_on lanes.new.items ≡ jobs_on lanes.old.items }
     ensures kept { (lane some : ℕ) → HasRoom lanes.old.items lane some → HasRoom lanes.new.items lane some }

@@ -39,10 +39,10 @@ pub fn events_chain()
 pub fn a_board_covers_its_opening()
     ensures covers { (b : BoardParts) (calling : List ℕ) → Partition b
         → Covers b.opening.problem b.found (nodes_of b) calling
-            ↔ Covers b.opening.problem b.opening.found (opening_nodes b.opening) calling }
+        ↔ Covers b.opening.problem b.opening.found (opening_nodes b.opening) calling }
     ensures finished { (b : BoardParts) (calling : List ℕ) → Partition b → jobs_of b ≡ []
         → Covers b.opening.problem b.found [] calling
-            ↔ Covers b.opening.problem b.opening.found (opening_nodes b.opening) calling }
+        ↔ Covers b.opening.problem b.opening.found (opening_nodes b.opening) calling }
     ensures size { (b : BoardParts) → Partition b → jobs_of b ≡ []
         → b.spent ≡ size_of_all b.opening.problem most_rows (opening_nodes b.opening) }
     ensures left { (b : BoardParts) (budget : ℕ) → Partition b → b.spent ≡ budget

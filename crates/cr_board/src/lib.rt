@@ -32,3 +32,5 @@ pub use job::{LaneJob, Ticket};
 pub use opening::Opening;
 pub use taken::{Claimed, Taken};
 
+#[cfg(test)]
+mod tests;

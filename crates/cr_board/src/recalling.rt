@@ -1,6 +1,6 @@
 //! Resigning and recalling.
 
-ghost use Rattle.std.specs.Prelude.{◌≡◌, ℕ, ◌<◌, ◌≤◌, vec_len};
+ghost use Rattle.std.specs.Prelude.{◌≡◌, ℕ, ◌<◌, ◌≤◌, false, replicate, vec_len};
 ghost use Rattle.cr_board.specs.Jobs.{OpeningParts};
 ghost use Rattle.cr_board.specs.Moves.{given_back, after_resigning, back_below, after_recall};
 ghost use Rattle.cr_board.specs.Rooms.{parts_of, HasRooms};
@@ -28,7 +28,7 @@ impl Board {
     {
         let workers = self.opening.workers();
         give_all_back(&mut self.state, workers);
-        self.state.resigned.fill(false);
+        clear(&mut self.state.resigned);
     }
 }
 
@@ -65,4 +65,11 @@ fn give_all_back(state: &mut State, workers: u32)
     for worker in 0..workers {
         give_back(state, worker);
     }
+}
+
+// Nobody has resigned.
+fn clear(flags: &mut Vec<bool>)
+    ensures { flags.new.items ≡ replicate (vec_len flags.old) false }
+{
+    flags.fill(false);
 }

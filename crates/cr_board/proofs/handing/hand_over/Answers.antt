@@ -1,4 +1,4 @@
-use Rattle.std.proofs.Common.{◌≡◌, ◌<◌, length, sym, ap, ◌∙◌, arith}
+use Rattle.std.proofs.Common.{◌<◌, length, sym, ap, ◌∙◌, arith}
 use Rattle.cr_board.specs.Choices.{is_holding}
 use Rattle.cr_board.specs.Rooms.{holding}
 use Rattle.cr_board.proofs.Rooms.{free_lanes, free_count}

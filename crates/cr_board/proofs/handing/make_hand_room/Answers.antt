@@ -1,4 +1,4 @@
-use Rattle.std.proofs.Common.{◌≡◌, refl, arith}
+use Rattle.std.proofs.Common.{refl, arith}
 use Rattle.cr_board.proofs.Rooms.{rooms_stay}
 use Rattle.cr_board.proofs.handing.make_hand_room.Goals as goal
 

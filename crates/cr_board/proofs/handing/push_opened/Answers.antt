@@ -1,4 +1,4 @@
-use Rattle.std.proofs.Common.{◌≡◌, ◌<◌, ◌+◌, ◌++◌, length, set, sym, ap, ◌∙◌, arith}
+use Rattle.std.proofs.Common.{◌+◌, ◌++◌, set, sym, ap, ◌∙◌, arith}
 use Rattle.std.proofs.lemmas.List.{length-map}
 use Rattle.cr_board.specs.Jobs.{JobParts, numbered}
 use Rattle.cr_board.specs.Boards.{lane_at}
@@ -17,7 +17,7 @@ returns-in-Halves-clause-lanes c =
     let second : JobParts = record { number = c.args.next + 1; nodes = c.in-Halves.second.items } in
     c.push_job-in-Halves-2.ensures.lanes
     ∙ two_put lanes (jobs_on c.push_job-in-Halves.new.lanes.items) c.args.worker first second
-      (omega (arith, c.requires.inside, c.args.lanes.now.ok, length-map c.args.lanes.now.items (λ lane. lane.items))) c.push_job-in-Halves.ensures.lanes
+    (omega (arith, c.requires.inside, c.args.lanes.now.ok, length-map c.args.lanes.now.items (λ lane. lane.items))) c.push_job-in-Halves.ensures.lanes
     ∙ ap (λ opened. set lanes c.args.worker (lane_at lanes c.args.worker ++ numbered c.args.next (opened_jobs opened))) (sym c.in-Halves.is)
 
 pub returns-in-Halves-clause-others : goal.returns-in-Halves-clause-others

@@ -1,4 +1,4 @@
-use Rattle.std.proofs.Common.{◌≡◌, map, ap, ◌∙◌, arith}
+use Rattle.std.proofs.Common.{ap, ◌∙◌, arith}
 use Rattle.cr_board.specs.Rooms.{jobs_on}
 use Rattle.cr_board.proofs.Reading.{lanes_more}
 use Rattle.cr_board.proofs.lanes.lanes_from.Goals as goal

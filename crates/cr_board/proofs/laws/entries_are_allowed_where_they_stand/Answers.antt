@@ -1,7 +1,5 @@
-use Rattle.std.proofs.Common.{◌≡◌, ◌<◌, length, Some, refl, arith}
+use Rattle.std.proofs.Common.{refl, arith}
 use Rattle.std.proofs.lemmas.Option.{none-some}
-use Rattle.cr_board.specs.Halls.{CanTake, HoldsFor, start}
-use Rattle.cr_board.specs.Examples.{two_jobs}
 use Rattle.cr_board.proofs.laws.entries_are_allowed_where_they_stand.Goals as goal
 
 pub returns : goal.returns

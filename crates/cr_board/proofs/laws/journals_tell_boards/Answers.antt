@@ -1,4 +1,4 @@
-use Rattle.cr_board.proofs.Replaying.{opened_replayed, take_replayed}
+use Rattle.cr_board.proofs.Replaying.{opened_replayed}
 use Rattle.cr_board.proofs.HallFacts.{number_once, budget_kept}
 use Rattle.cr_board.proofs.laws.journals_tell_boards.Goals as goal
 

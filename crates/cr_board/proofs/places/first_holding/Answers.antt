@@ -1,4 +1,4 @@
-use Rattle.std.proofs.Common.{◌≡◌, length, is_some, None, sym, ap, ◌∙◌, arith}
+use Rattle.std.proofs.Common.{length, is_some, None, sym, ap, ◌∙◌, arith}
 use Rattle.cr_board.specs.Choices.{is_holding}
 use Rattle.cr_board.proofs.Reading.{read_at}
 use Rattle.cr_board.proofs.Finding.{first_at, none_at}

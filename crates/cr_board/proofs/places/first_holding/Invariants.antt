@@ -1,4 +1,4 @@
-use Rattle.std.proofs.Common.{◌≡◌, ℕ, ◌<◌, ◌≤◌, false}
+use Rattle.std.proofs.Common.{◌≡◌, ℕ, ◌<◌, false}
 use Rattle.cr_board.specs.Choices.{is_holding}
 use Rattle.cr_board.proofs.places.first_holding.Given as goal
 

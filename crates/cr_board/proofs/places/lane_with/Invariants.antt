@@ -1,4 +1,4 @@
-use Rattle.std.proofs.Common.{◌≡◌, ℕ, ◌<◌, ◌≤◌, false}
+use Rattle.std.proofs.Common.{◌≡◌, ℕ, ◌<◌, false}
 use Rattle.cr_board.specs.Choices.{has_number}
 use Rattle.cr_board.specs.Rooms.{jobs_on}
 use Rattle.cr_board.proofs.places.lane_with.Given as goal

@@ -1,4 +1,4 @@
-use Rattle.std.proofs.Common.{◌≡◌, length, is_some, sym, ap, ◌∙◌, arith}
+use Rattle.std.proofs.Common.{length, sym, ◌∙◌}
 use Rattle.cr_board.specs.Choices.{is_busy}
 use Rattle.cr_board.specs.Rooms.{jobs_on}
 use Rattle.cr_board.proofs.Finding.{round_up, round_down}

@@ -1,4 +1,4 @@
-use Rattle.std.proofs.Common.{◌≡◌, ℕ, ◌<◌, ◌≤◌, false}
+use Rattle.std.proofs.Common.{◌≡◌, ℕ, ◌<◌, false}
 use Rattle.cr_board.specs.Choices.{is_number}
 use Rattle.cr_board.proofs.places.place_in.Given as goal
 

@@ -1,4 +1,4 @@
-use Rattle.std.proofs.Common.{◌≡◌, length, vec_len}
+use Rattle.std.proofs.Common.{◌≡◌, vec_len}
 use Rattle.cr_board.specs.Jobs.{OpeningParts}
 use Rattle.cr_board.specs.Moves.{back_below}
 use Rattle.cr_board.specs.Rooms.{parts_of, HasRooms}

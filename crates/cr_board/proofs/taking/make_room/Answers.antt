@@ -1,4 +1,4 @@
-use Rattle.std.proofs.Common.{◌≡◌, length, refl, arith}
+use Rattle.std.proofs.Common.{refl, arith}
 use Rattle.cr_board.proofs.Rooms.{rooms_stay, few_holding}
 use Rattle.cr_board.proofs.taking.make_room.Goals as goal
 

@@ -1,4 +1,4 @@
-use Rattle.std.proofs.Common.{◌≡◌, ◌≤◌, ◌<◌, length, is_some, vec_len, refl, sym, ap, ◌∙◌, subst, arith}
+use Rattle.std.proofs.Common.{◌≡◌, length, is_some, refl, sym, ap, ◌∙◌, subst, arith}
 use Rattle.std.proofs.lemmas.List.{length-map}
 use Rattle.cr_board.specs.Boards.{BoardParts}
 use Rattle.cr_board.specs.Choices.{is_holding}
@@ -45,7 +45,7 @@ pub invariant_of-self-in-Ok : goal.invariant_of-self-in-Ok
 invariant_of-self-in-Ok c = record {
   facts = subst IsKept (sym (is_handed c))
       (due_keeps c.a_split_among_others.ensures (parts_of c.self.inside.opening c.self.inside.state) c.args.worker c.args.number c.args.done
-        (subst (λ b. IsDue b c.args.worker c.args.number c.args.done) (sym c.self.view_is) c.requires) c.found.ensures.done c.self.invariant.facts);
+      (subst (λ b. IsDue b c.args.worker c.args.number c.args.done) (sym c.self.view_is) c.requires) c.found.ensures.done c.self.invariant.facts);
   rooms = c.hand_over.ensures.rooms;
 }
 

@@ -1,4 +1,4 @@
-use Rattle.std.proofs.Common.{◌≡◌, ◌<◌, length, false, replicate, vec_len, sym, ap, ap₂, ◌∙◌, subst, arith}
+use Rattle.std.proofs.Common.{◌≡◌, false, replicate, vec_len, sym, ap, ap₂, ◌∙◌, subst}
 use Rattle.cr_board.specs.Boards.{BoardParts}
 use Rattle.cr_board.specs.Moves.{back_below, after_recall}
 use Rattle.cr_board.specs.Partitions.{IsKept}
@@ -7,15 +7,15 @@ use Rattle.cr_board.proofs.Keeping.{recall_keeps}
 use Rattle.cr_board.proofs.board.Board.recall_all.Goals as goal
 
 -- the board after all gave back and the flags were cleared
-is_recalled : (c : goal.After-fill) → parts_of c.self.inside.opening (record c.give_all_back.new.state { resigned = c.fill.new.self }) ≡ after_recall (parts_of c.self.inside.opening c.self.inside.state)
+is_recalled : (c : goal.After-clear) → parts_of c.self.inside.opening (record c.give_all_back.new.state { resigned = c.clear.new.flags }) ≡ after_recall (parts_of c.self.inside.opening c.self.inside.state)
 is_recalled c =
     let old : BoardParts = parts_of c.self.inside.opening c.self.inside.state in
     let workers : c.workers-workers.result ≡ old.opening.workers = c.workers-workers.ensures.is in
     let flags : vec_len c.give_all_back.new.state.resigned ≡ old.opening.workers =
-      ap vec_len c.give_all_back.ensures.resigned ∙ c.self.inside.state.resigned.ok.0 ∙ c.self.invariant.facts.partition.shape.resigned in
+    ap vec_len c.give_all_back.ensures.resigned ∙ c.self.inside.state.resigned.ok.0 ∙ c.self.invariant.facts.partition.shape.resigned in
     ap₂ {C = BoardParts} (λ b r. record b { resigned = r })
-      (c.give_all_back.ensures.is c.self.inside.opening ∙ ap (back_below old) workers)
-      (c.fill.ensures.items (λ y e. e) ∙ ap (λ n. replicate n false) flags)
+    (c.give_all_back.ensures.is c.self.inside.opening ∙ ap (back_below old) workers)
+    (c.clear.ensures ∙ ap (λ n. replicate n false) flags)
 
 pub invariant_of-self : goal.invariant_of-self
 invariant_of-self c = record {

@@ -1,6 +1,5 @@
-use Rattle.std.proofs.Common.{◌≡◌, ◌<◌, length, true, set, vec_len, sym, ap, ◌∙◌, subst, arith}
+use Rattle.std.proofs.Common.{◌≡◌, ◌<◌, true, set, vec_len, sym, ap, ◌∙◌, subst, arith}
 use Rattle.cr_board.specs.Boards.{BoardParts}
-use Rattle.cr_board.specs.Moves.{after_resigning}
 use Rattle.cr_board.specs.Partitions.{IsKept}
 use Rattle.cr_board.specs.Rooms.{parts_of}
 use Rattle.cr_board.proofs.Keeping.{resign_keeps}
@@ -18,7 +17,7 @@ invariant_of-self c =
     record {
       facts = subst IsKept
           (sym (ap {B = BoardParts} (λ flags. record (parts_of c.self.inside.opening c.give_back.new.state) { resigned = set flags.items c.args.worker true }) c.give_back.ensures.resigned
-            ∙ ap {A = BoardParts} (λ b. record b { resigned = set old.resigned c.args.worker true }) (c.give_back.ensures.is c.self.inside.opening)))
+          ∙ ap {A = BoardParts} (λ b. record b { resigned = set old.resigned c.args.worker true }) (c.give_back.ensures.is c.self.inside.opening)))
           (resign_keeps old c.args.worker c.self.invariant.facts);
       rooms = record { lanes = c.give_back.ensures.rooms.lanes; journal = c.give_back.ensures.rooms.journal };
     }

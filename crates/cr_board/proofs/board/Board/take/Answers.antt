@@ -1,4 +1,4 @@
-use Rattle.std.proofs.Common.{◌≡◌, ◌≤◌, ◌<◌, length, None, vec_len, sym, ap, ◌∙◌, subst, arith}
+use Rattle.std.proofs.Common.{◌≡◌, length, None, sym, ap, ◌∙◌, subst, arith}
 use Rattle.std.proofs.lemmas.List.{length-map}
 use Rattle.cr_board.specs.Boards.{BoardParts, held_at}
 use Rattle.cr_board.specs.Choices.{refusal_of, grant_now, Stands}
@@ -50,9 +50,9 @@ pub invariant_of-self-2 : goal.invariant_of-self-2
 invariant_of-self-2 c = record {
   facts = subst IsKept (sym (is_taken c))
       (take_keeps (parts_of c.self.inside.opening c.self.inside.state) c.args.worker c.args.place
-        (subst (λ b. refusal_of b c.args.worker ≡ None) (sym c.self.view_is) c.requires.free)
-        (subst (λ (b : BoardParts). Stands b.lanes c.args.place) (sym c.self.view_is) c.requires.stands)
-        c.self.invariant.facts);
+      (subst (λ b. refusal_of b c.args.worker ≡ None) (sym c.self.view_is) c.requires.free)
+      (subst (λ (b : BoardParts). Stands b.lanes c.args.place) (sym c.self.view_is) c.requires.stands)
+      c.self.invariant.facts);
   rooms = c.hold.ensures.rooms;
 }
 

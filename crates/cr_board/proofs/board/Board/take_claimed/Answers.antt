@@ -1,4 +1,4 @@
-use Rattle.std.proofs.Common.{◌≡◌, sym, ◌∙◌}
+use Rattle.std.proofs.Common.{sym, ◌∙◌}
 use Rattle.cr_board.proofs.Asking.{claim_stands}
 use Rattle.cr_board.proofs.board.Board.take_claimed.Goals as goal
 

@@ -1,4 +1,4 @@
-use Rattle.std.proofs.Common.{◌≡◌, sym, ◌∙◌}
+use Rattle.std.proofs.Common.{sym, ◌∙◌}
 use Rattle.cr_board.proofs.Asking.{free_from, next_stands}
 use Rattle.cr_board.proofs.board.Board.take_next.Goals as goal
 

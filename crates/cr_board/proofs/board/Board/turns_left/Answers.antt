@@ -1,4 +1,4 @@
-use Rattle.std.proofs.Common.{◌≡◌, ◌≤◌, IfSome, Some, sym, ap, ◌∙◌, subst, arith}
+use Rattle.std.proofs.Common.{◌≤◌, IfSome, sym, ◌∙◌, subst, arith}
 use Rattle.cr_board.specs.Boards.{BoardParts, promised}
 use Rattle.cr_board.specs.Rooms.{parts_of}
 use Rattle.cr_board.proofs.HallFacts.{Within, within_some}
@@ -8,17 +8,17 @@ use Rattle.cr_board.proofs.board.Board.turns_left.Goals as goal
 pub promised_turns-requires : goal.promised_turns-requires
 promised_turns-requires c =
     subst (λ o. Within o (promised (parts_of c.self.inside.opening c.self.inside.state))) (sym c.budget.ensures.is ∙ c.in-Some.is)
-      (promised_within (parts_of c.self.inside.opening c.self.inside.state) c.self.invariant.facts.replayed c.self.invariant.facts.opening.some)
+    (promised_within (parts_of c.self.inside.opening c.self.inside.state) c.self.invariant.facts.replayed c.self.invariant.facts.opening.some)
 
 pub overflow_sub-result : goal.overflow_sub-result
 overflow_sub-result c =
     let within : promised (parts_of c.self.inside.opening c.self.inside.state) ≤ c.in-Some.budget =
-      subst (λ o. Within o (promised (parts_of c.self.inside.opening c.self.inside.state))) (sym c.budget.ensures.is ∙ c.in-Some.is)
-        (promised_within (parts_of c.self.inside.opening c.self.inside.state) c.self.invariant.facts.replayed c.self.invariant.facts.opening.some) in
+    subst (λ o. Within o (promised (parts_of c.self.inside.opening c.self.inside.state))) (sym c.budget.ensures.is ∙ c.in-Some.is)
+    (promised_within (parts_of c.self.inside.opening c.self.inside.state) c.self.invariant.facts.replayed c.self.invariant.facts.opening.some) in
     omega (arith, c.promised_turns.ensures, within)
 
 pub returns-in-Some-clause-within : goal.returns-in-Some-clause-within
 returns-in-Some-clause-within c =
     subst (λ (b : BoardParts). IfSome b.opening.budget (λ budget. promised b ≤ budget)) c.self.view_is
-      (within_some c.self.inside.opening.budget (promised (parts_of c.self.inside.opening c.self.inside.state))
-        (promised_within (parts_of c.self.inside.opening c.self.inside.state) c.self.invariant.facts.replayed c.self.invariant.facts.opening.some))
+    (within_some c.self.inside.opening.budget (promised (parts_of c.self.inside.opening c.self.inside.state))
+    (promised_within (parts_of c.self.inside.opening c.self.inside.state) c.self.invariant.facts.replayed c.self.invariant.facts.opening.some))

@@ -1,4 +1,4 @@
-use Rattle.std.proofs.Common.{◌≡◌, ◌≤◌, ◌<◌, ◌^◌, length, Some, Fits, w32, sym, ap, ◌∙◌, subst, arith}
+use Rattle.std.proofs.Common.{◌<◌, ◌^◌, arith}
 use Rattle.cr_board.proofs.board.Board.waiting.Goals as goal
 
 pub overflow_cast-result : goal.overflow_cast-result
