@@ -1,0 +1,4 @@
+pub mod Digits
+pub mod Given
+pub mod Faults
+pub mod Wishes

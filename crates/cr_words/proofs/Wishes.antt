@@ -1,0 +1,153 @@
+-- Assigned values are one wish or have one first fault, and what that makes of an answer.
+use Rattle.std.proofs.Common.{◌≡◌, ◌∙◌, refl, ap, sym, arith, ◌⊎◌, inl, inr, ℕ, Bool, true, false, Option, Some, None, unwrap_or, List, [], ◌∷◌, ◌++◌, ◌&&◌, length, get_or, Ok, Err, IfOk, IfErr, subst}
+use Rattle.std.specs.Prelude.{Result, MatchResult}
+use Rattle.std.specs.List.{list_all}
+use Rattle.std.proofs.lemmas.Bool.{both_ways}
+use Rattle.clap.specs.Words.{Row, Text}
+use Rattle.cr_words.specs.Commands.{are_taken, assigned, assigned_in, rows_in}
+use Rattle.cr_words.specs.Values.{Assigned, IsWishOf, workers_of, turns_of, number_for, mode_of, is_mixed, when, faults_of}
+use Rattle.cr_words.specs.Readings.{IsFirst, ReadsAs, IsFirstFault, MayFail}
+use Rattle.cr_words.proofs.Faults.{first_workers, first_turns, first_number, first_mode, first_mixed, past_mode}
+use Rattle.cr_words.specs.declared.fault.WordsFault.{WordsFault}
+use Rattle.cr_words.specs.declared.fault.WordsFault.TheVariants.{Line, Workers, Turns, Number, Mode as NoMode, Mixed, NoMemory}
+use Rattle.cr_words.specs.declared.wish.Wish.{Wish}
+use Rattle.cr_words.specs.declared.wish.Mode.{Mode}
+
+same_some : {X : Type 0} (x y : X) → Some x ≡ Some y → x ≡ y
+same_some x y e = ap (λ o. unwrap_or o x) e
+
+same_wish : (w v : Wish) → w.workers ≡ v.workers → w.turns ≡ v.turns → w.mode ≡ v.mode → w ≡ v
+same_wish w v workers turns mode =
+    ap (λ (n : ℕ). record w { workers = n }) workers
+    ∙ ap (λ (t : Option ℕ). record w { workers = v.workers; turns = t }) turns
+    ∙ ap (λ (m : Mode). record v { mode = m }) mode
+
+pub one_wish : (a : Assigned) (w v : Wish) → IsWishOf a w → IsWishOf a v → w ≡ v
+one_wish a w v is also =
+    let number : is.number ≡ also.number = same_some _ _ (sym is.has_number ∙ also.has_number) in
+    same_wish w v (same_some _ _ (sym is.has_workers ∙ also.has_workers)) (same_some _ _ (sym is.has_turns ∙ also.has_turns))
+    (same_some _ _ (sym is.has_mode ∙ ap (λ n. mode_of n a) number ∙ also.has_mode))
+
+pub no_fault : (a : Assigned) (w : Wish) → IsWishOf a w → faults_of a ≡ []
+no_fault a w is = past_mode a _ _ _ _ is.has_workers is.has_turns is.has_number is.has_mode ∙ ap (λ b. when b Mixed) is.unmixed
+
+pub not_both : (a : Assigned) (w : Wish) (f : WordsFault) → IsWishOf a w → IsFirst (faults_of a) f → ⊥
+not_both a w f is first =
+    let counted : 0 ≡ length (f ∷ first.0) = ap length (sym (no_fault a w is) ∙ first.1) in
+    omega (arith, counted)
+
+pub one_first : (faults : List WordsFault) (f g : WordsFault) → IsFirst faults f → IsFirst faults g → f ≡ g
+one_first faults f g first also = ap (λ (xs : List WordsFault). get_or xs 0 f) (sym first.1 ∙ also.1)
+
+abbrev WishOrFault : Assigned → Type 0
+WishOrFault a = ((w : Wish) × IsWishOf a w) ⊎ ((f : WordsFault) × IsFirst (faults_of a) f)
+
+by_mixed : (a : Assigned) (n : ℕ) (t : Option ℕ) (k : ℕ) (mode : Mode) → workers_of a ≡ Some n → turns_of a ≡ Some t
+    → number_for a ≡ Some k → mode_of k a ≡ Some mode → (b : Bool) → is_mixed a ≡ b → WishOrFault a
+by_mixed a n t k mode is also too named true e = inr (Mixed, first_mixed a n t k mode is also too named e)
+by_mixed a n t k mode is also too named false e = inl (record { workers = n; turns = t; mode = mode }, record {
+  number = k;
+  has_workers = is;
+  has_turns = also;
+  has_number = too;
+  has_mode = named;
+  unmixed = e;
+})
+
+by_mode : (a : Assigned) (n : ℕ) (t : Option ℕ) (k : ℕ) → workers_of a ≡ Some n → turns_of a ≡ Some t → number_for a ≡ Some k
+    → (o : Option Mode) → mode_of k a ≡ o → WishOrFault a
+by_mode a n t k is also too None e = inr (NoMode, first_mode a n t k is also too e)
+by_mode a n t k is also too (Some mode) e = by_mixed a n t k mode is also too e (is_mixed a) refl
+
+by_number : (a : Assigned) (n : ℕ) (t : Option ℕ) → workers_of a ≡ Some n → turns_of a ≡ Some t
+    → (o : Option ℕ) → number_for a ≡ o → WishOrFault a
+by_number a n t is also None e = inr (Number, first_number a n t is also e)
+by_number a n t is also (Some k) e = by_mode a n t k is also e (mode_of k a) refl
+
+by_turns : (a : Assigned) (n : ℕ) → workers_of a ≡ Some n → (o : Option (Option ℕ)) → turns_of a ≡ o → WishOrFault a
+by_turns a n is None e = inr (Turns, first_turns a n is e)
+by_turns a n is (Some t) e = by_number a n t is e (number_for a) refl
+
+by_workers : (a : Assigned) (o : Option ℕ) → workers_of a ≡ o → WishOrFault a
+by_workers a None e = inr (Workers, first_workers a e)
+by_workers a (Some n) e = by_turns a n e (turns_of a) refl
+
+pub wish_or_fault : (a : Assigned) → WishOrFault a
+wish_or_fault a = by_workers a (workers_of a) refl
+
+-- what the values answer is no fault of the line, and it is what the words may answer
+abbrev is_of_value : WordsFault → Bool
+is_of_value Line = false
+is_of_value _ = true
+
+more_of_value : (b : Bool) (f : WordsFault) (rest : List WordsFault) → is_of_value f ≡ true → list_all is_of_value rest ≡ true
+    → list_all is_of_value (when b f ++ rest) ≡ true
+more_of_value true f rest is all = ap (λ t. t && list_all is_of_value rest) is ∙ all
+more_of_value false f rest is all = all
+
+last_of_value : (b : Bool) → list_all is_of_value (when b Mixed) ≡ true
+last_of_value true = refl
+last_of_value false = refl
+
+all_of_value : (a : Assigned) → list_all is_of_value (faults_of a) ≡ true
+unfolding faults_of
+all_of_value a = more_of_value _ Workers _ refl (more_of_value _ Turns _ refl (more_of_value _ Number _ refl
+    (more_of_value _ NoMode _ refl (last_of_value (is_mixed a)))))
+
+never_line : (a : Assigned) → IsFirst (faults_of a) Line → ⊥
+never_line a first = both_ways true (sym (all_of_value a) ∙ ap (list_all is_of_value) first.1) refl
+
+pub answer_reads : (words : List Text) (a : Assigned) (r : Result Wish WordsFault) → a ≡ assigned words
+    → MatchResult r (IsWishOf a) (IsFirst (faults_of a)) → IfOk r (ReadsAs words)
+answer_reads words a (Ok w) same is = subst (λ a. IsWishOf a w) same is
+answer_reads words a (Err f) same is = tt
+
+first_may_fail : (words : List Text) (f : WordsFault) → IsFirst (faults_of (assigned words)) f → MayFail words f
+first_may_fail words Line first = absurd (never_line (assigned words) first)
+first_may_fail words Workers first = first
+first_may_fail words Turns first = first
+first_may_fail words Number first = first
+first_may_fail words NoMode first = first
+first_may_fail words Mixed first = first
+first_may_fail words NoMemory first = tt
+
+pub answer_fails : (words : List Text) (a : Assigned) (r : Result Wish WordsFault) → a ≡ assigned words
+    → MatchResult r (IsWishOf a) (IsFirst (faults_of a)) → IfErr r (MayFail words)
+answer_fails words a (Ok w) same is = tt
+answer_fails words a (Err f) same is = first_may_fail words f (subst (λ a. IsFirst (faults_of a) f) same is)
+
+-- what the rows of clap assign
+pub assigned_by : (words : List Text) (a : Assigned) (rows : List Row) → a ≡ assigned_in rows → rows ≡ rows_in words → a ≡ assigned words
+unfolding assigned
+assigned_by words a rows is found = is ∙ ap assigned_in found
+
+-- accepted words give their wish, or there was not enough memory
+pub accepted_answer : (words : List Text) (r : Result Wish WordsFault) → IfOk r (ReadsAs words) → IfErr r (MayFail words)
+    → (w : Wish) → are_taken words ≡ true → ReadsAs words w → (r ≡ Ok w) ⊎ (r ≡ Err NoMemory)
+accepted_answer words (Ok v) reads fails w taken is = inl (ap (λ (x : Wish). Ok x) (one_wish (assigned words) v w reads is))
+accepted_answer words (Err Line) reads fails w taken is = absurd (both_ways _ fails taken)
+accepted_answer words (Err Workers) reads fails w taken is = absurd (not_both (assigned words) w Workers is fails)
+accepted_answer words (Err Turns) reads fails w taken is = absurd (not_both (assigned words) w Turns is fails)
+accepted_answer words (Err Number) reads fails w taken is = absurd (not_both (assigned words) w Number is fails)
+accepted_answer words (Err NoMode) reads fails w taken is = absurd (not_both (assigned words) w NoMode is fails)
+accepted_answer words (Err Mixed) reads fails w taken is = absurd (not_both (assigned words) w Mixed is fails)
+accepted_answer words (Err NoMemory) reads fails w taken is = inr refl
+
+abbrev the_result : WordsFault → Result Wish WordsFault
+the_result f = Err f
+
+same_fault : (words : List Text) (f g : WordsFault) → IsFirstFault words f → IsFirstFault words g
+    → (the_result f ≡ the_result g) ⊎ (the_result f ≡ the_result NoMemory)
+same_fault words f g first also = inl (ap the_result (one_first (faults_of (assigned words)) f g first also))
+
+-- taken words with a first fault give it, or there was not enough memory
+pub refused_answer : (words : List Text) (r : Result Wish WordsFault) → IfOk r (ReadsAs words) → IfErr r (MayFail words)
+    → (f : WordsFault) → are_taken words ≡ true → IsFirstFault words f → (r ≡ Err f) ⊎ (r ≡ Err NoMemory)
+refused_answer words (Ok v) reads fails f taken first = absurd (not_both (assigned words) v f reads first)
+refused_answer words (Err Line) reads fails f taken first = absurd (both_ways _ fails taken)
+refused_answer words (Err Workers) reads fails f taken first = same_fault words Workers f fails first
+refused_answer words (Err Turns) reads fails f taken first = same_fault words Turns f fails first
+refused_answer words (Err Number) reads fails f taken first = same_fault words Number f fails first
+refused_answer words (Err NoMode) reads fails f taken first = same_fault words NoMode f fails first
+refused_answer words (Err Mixed) reads fails f taken first = same_fault words Mixed f fails first
+refused_answer words (Err NoMemory) reads fails f taken first = inr refl
