@@ -2,3 +2,4 @@ pub mod Digits
 pub mod Given
 pub mod Faults
 pub mod Wishes
+pub mod Answering

@@ -2,3 +2,4 @@ pub mod Numbers
 pub mod Values
 pub mod Commands
 pub mod Readings
+pub mod Examples

@@ -1,5 +1,5 @@
 use Rattle.cr_words.specs.Commands.{texts_of}
-use Rattle.cr_words.proofs.Wishes.{accepted_answer, refused_answer}
+use Rattle.cr_words.proofs.Answering.{accepted_answer, refused_answer}
 use Rattle.cr_words.proofs.reading.read_words.Goals as goal
 
 pub returns-clause-accepted : goal.returns-clause-accepted

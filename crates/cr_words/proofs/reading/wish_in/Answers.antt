@@ -1,5 +1,5 @@
 use Rattle.cr_words.specs.Commands.{texts_of}
-use Rattle.cr_words.proofs.Wishes.{answer_reads, answer_fails, assigned_by}
+use Rattle.cr_words.proofs.Answering.{answer_reads, answer_fails, assigned_by}
 use Rattle.cr_words.proofs.reading.wish_in.Goals as goal
 
 pub returns-clause-ok : goal.returns-clause-ok
