@@ -45,14 +45,17 @@ WishOrFault a = ((w : Wish) × IsWishOf a w) ⊎ ((f : WordsFault) × IsFirst (f
 by_mixed : (a : Assigned) (n : ℕ) (t : Option ℕ) (k : ℕ) (mode : Mode) → workers_of a ≡ Some n → turns_of a ≡ Some t
     → number_for a ≡ Some k → mode_of k a ≡ Some mode → (b : Bool) → is_mixed a ≡ b → WishOrFault a
 by_mixed a n t k mode is also too named true e = inr (Mixed, first_mixed a n t k mode is also too named e)
-by_mixed a n t k mode is also too named false e = inl (record { workers = n; turns = t; mode = mode }, record {
-  number = k;
-  has_workers = is;
-  has_turns = also;
-  has_number = too;
-  has_mode = named;
-  unmixed = e;
-})
+by_mixed a n t k mode is also too named false e = inl (
+  record { workers = n; turns = t; mode = mode },
+  record {
+    number = k;
+    has_workers = is;
+    has_turns = also;
+    has_number = too;
+    has_mode = named;
+    unmixed = e;
+  },
+)
 
 by_mode : (a : Assigned) (n : ℕ) (t : Option ℕ) (k : ℕ) → workers_of a ≡ Some n → turns_of a ≡ Some t → number_for a ≡ Some k
     → (o : Option Mode) → mode_of k a ≡ o → WishOrFault a

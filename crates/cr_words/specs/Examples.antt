@@ -18,6 +18,10 @@ abbrev pub line : List ℕ → List Text
 line [] = [] ∷ []
 line (byte ∷ rest) = at_space (nat_eq byte 32) byte (line rest)
 
+-- the two bytes of an e with an accent
+abbrev pub accent : List ℕ
+accent = 195 ∷ 169 ∷ []
+
 abbrev pub is_line_taken : List ℕ → Bool
 is_line_taken text = are_taken (line text)
 

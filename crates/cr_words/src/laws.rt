@@ -1,10 +1,10 @@
 //! Laws of words and wishes. Each is the contract of a function that does nothing.
 
-ghost use Rattle.std.specs.Prelude.{◌≡◌, ◌⊎◌, true, not, Some, None, List, [], ◌∷◌, map, codes};
+ghost use Rattle.std.specs.Prelude.{◌≡◌, ◌⊎◌, true, not, Some, None, List, [], ◌∷◌, ◌++◌, map, codes};
 ghost use Rattle.std.specs.List.{list_all};
 ghost use Rattle.clap.specs.Words.{Text};
 ghost use Rattle.cr_words.specs.Commands.{are_taken};
-ghost use Rattle.cr_words.specs.Examples.{line, is_line_taken, line_faults};
+ghost use Rattle.cr_words.specs.Examples.{line, accent, is_line_taken, line_faults};
 ghost use Rattle.cr_words.specs.Readings.{ReadsAs, IsFirstFault};
 ghost use Rattle.cr_words.specs.declared.fault.WordsFault.TheVariants as fault;
 ghost use Rattle.cr_words.specs.declared.wish.Mode.TheVariants as mode;
@@ -28,11 +28,11 @@ pub fn words_are_a_wish_or_have_a_first_fault()
 pub fn lines_are_taken_or_not()
     ensures nothing { are_taken [] ≡ true }
     ensures taken { list_all is_line_taken (codes "--workers 3" ∷ codes "--workers=3" ∷ codes "--turns=5" ∷ codes "--turns 5"
-        ∷ codes "--workers=" ∷ codes "--workers " ∷ codes "--do find" ∷ codes "--turns=-1" ∷ codes "--number é" ∷ codes "--"
+        ∷ codes "--workers=" ∷ codes "--workers " ∷ codes "--do find" ∷ codes "--turns=-1" ∷ (codes "--number " ++ accent) ∷ codes "--"
         ∷ codes "--do make --number 7 --workers 64" ∷ []) ≡ true }
     ensures not_taken { list_all (λ text. not (is_line_taken text)) (codes "--bells" ∷ codes "--workers" ∷ codes "--workers --turns"
         ∷ codes "--turns 1 --turns 2" ∷ codes "--do=make --do=make" ∷ codes "--turns -1" ∷ codes "--work 3" ∷ codes "find"
-        ∷ codes "" ∷ codes "é" ∷ codes "-- 5" ∷ codes "-t 5" ∷ codes "--help" ∷ codes "-h" ∷ codes "--version" ∷ codes "help"
+        ∷ codes "" ∷ accent ∷ codes "-- 5" ∷ codes "-t 5" ∷ codes "--help" ∷ codes "-h" ∷ codes "--version" ∷ codes "help"
         ∷ codes "--workers 3 " ∷ []) ≡ true }
 {}
 
@@ -57,7 +57,7 @@ pub fn lines_have_faults()
     ensures workers { map line_faults (codes "--workers 0" ∷ codes "--workers 65" ∷ codes "--workers=" ∷ codes "--workers +5" ∷ [])
         ≡ (fault.Workers ∷ []) ∷ (fault.Workers ∷ []) ∷ (fault.Workers ∷ []) ∷ (fault.Workers ∷ []) ∷ [] }
     ensures turns { map line_faults (codes "--turns 9223372036854775808" ∷ codes "--turns 00000000000000000005" ∷ codes "--turns="
-        ∷ codes "--turns é" ∷ []) ≡ (fault.Turns ∷ []) ∷ (fault.Turns ∷ []) ∷ (fault.Turns ∷ []) ∷ (fault.Turns ∷ []) ∷ [] }
+        ∷ (codes "--turns " ++ accent) ∷ []) ≡ (fault.Turns ∷ []) ∷ (fault.Turns ∷ []) ∷ (fault.Turns ∷ []) ∷ (fault.Turns ∷ []) ∷ [] }
     ensures modes { map line_faults (codes "--do find" ∷ codes "--do=" ∷ codes "--do Search" ∷ codes "--do find --number 1" ∷ [])
         ≡ (fault.Mode ∷ []) ∷ (fault.Mode ∷ []) ∷ (fault.Mode ∷ []) ∷ (fault.Mode ∷ []) ∷ [] }
     ensures mixed { map line_faults (codes "--do make --turns 5" ∷ codes "--number 1" ∷ codes "--number 0" ∷ [])

@@ -31,12 +31,12 @@ impl<'a> Model for Values<'a> {
     ghost Value = { Assigned };
 
     ghost view = { λ v. record {
-        workers = option_map (λ s. s.now) v.workers;
-        turns = option_map (λ s. s.now) v.turns;
-        task = option_map (λ s. s.now) v.task;
-        number = option_map (λ s. s.now) v.number;
-        has_turns = v.has_turns;
-        has_number = v.has_number;
+      workers = option_map (λ s. s.now) v.workers;
+      turns = option_map (λ s. s.now) v.turns;
+      task = option_map (λ s. s.now) v.task;
+      number = option_map (λ s. s.now) v.number;
+      has_turns = v.has_turns;
+      has_number = v.has_number;
     } };
 }
 
@@ -146,6 +146,10 @@ impl<'a> Values<'a> {
         if self.is_mixed() {
             return Err(WordsFault::Mixed);
         }
-        Ok(Wish { workers, turns, mode })
+        Ok(Wish {
+            workers,
+            turns,
+            mode,
+        })
     }
 }
