@@ -3,3 +3,4 @@ pub mod Given
 pub mod Faults
 pub mod Wishes
 pub mod Answering
+pub mod Taken

@@ -68,6 +68,7 @@ fn refusal(error: &Error) -> WordsFault
 #[tactic(auto, unfolding(crate::specs::Commands::rows_in, crate::specs::Commands::are_taken))]
 fn parsed<'a>(alloc: Global, words: &'a [String]) -> Result<ArgMatches<'a>, Error>
     ensures ok { IfOk result (λ m. rows_of (found_of m) ≡ rows_in (texts_of words.entry.now)) }
+    ensures taken { IfOk result (λ _. are_taken (texts_of words.entry.now) ≡ true) }
     ensures passes { IfErr result (λ e. are_taken (texts_of words.entry.now) ≡ true → kind_of e ≡ OutOfMemory) }
 {
     let command = ring_command(alloc)?;
@@ -77,6 +78,7 @@ fn parsed<'a>(alloc: Global, words: &'a [String]) -> Result<ArgMatches<'a>, Erro
 /// What the words match to the options.
 pub fn matches_in<'a>(alloc: Global, words: &'a [String]) -> Result<ArgMatches<'a>, WordsFault>
     ensures ok { IfOk result (λ m. rows_of (found_of m) ≡ rows_in (texts_of words.entry.now)) }
+    ensures taken { IfOk result (λ _. are_taken (texts_of words.entry.now) ≡ true) }
     ensures refused { IfErr result (IsRefused (are_taken (texts_of words.entry.now))) }
 {
     match parsed(alloc, words) {
