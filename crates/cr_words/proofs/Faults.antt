@@ -1,5 +1,5 @@
 -- The first fault of assigned values, and that they are a wish or have one.
-use Rattle.std.proofs.Common.{◌≡◌, ◌∙◌, refl, ap, sym, cond, ℕ, Bool, true, false, not, ◌||◌, Option, Some, None, is_some, List, [], ◌∷◌, ◌++◌}
+use Rattle.std.proofs.Common.{◌≡◌, ◌∙◌, refl, ap, cond, ℕ, Bool, true, false, not, ◌||◌, Option, Some, None, is_some, List, [], ◌∷◌, ◌++◌}
 use Rattle.cr_words.specs.Values.{Assigned, workers_of, turns_of, number_for, mode_of, is_to_search, is_to_make, is_mixed, when, faults_of}
 use Rattle.cr_words.specs.Readings.{IsFirst}
 use Rattle.cr_words.specs.declared.fault.WordsFault.{WordsFault}

@@ -1,5 +1,5 @@
 -- Words at which clap's definition lists no error are taken.
-use Rattle.std.proofs.Common.{◌≡◌, ◌∙◌, refl, ap, sym, arith, ℕ, zero, suc, ◌≤◌, ◌+◌, Bool, true, false, not, ◌||◌, ◌&&◌, cond, nat_le, nat_lt, Option, Some, None, is_some, List, [], ◌∷◌, length, drop}
+use Rattle.std.proofs.Common.{◌≡◌, ◌∙◌, refl, ap, sym, arith, ℕ, zero, suc, Bool, true, false, not, ◌||◌, ◌&&◌, cond, nat_le, nat_lt, Option, Some, None, is_some, List, [], ◌∷◌, length, drop}
 use Rattle.std.specs.Prelude.{◌==◌, slice_get, encode_utf8, codes, Result, Ok, Err, IfOk}
 use Rattle.std.specs.List.{list_all}
 use Rattle.std.specs.Option.{option_map_or}
@@ -10,14 +10,14 @@ use Rattle.clap.specs.declared.builder.action.ArgAction.TheVariants as action
 use Rattle.clap.specs.declared.builder.value_parser.ValueParser.{ValueParser}
 use Rattle.clap.specs.declared.error.kind.ErrorKind.{ErrorKind}
 use Rattle.clap.specs.declared.error.kind.ErrorKind.TheVariants as kind
-use Rattle.clap.specs.Facts.{parser_of_value, unwrap_or_range}
+use Rattle.clap.specs.Facts.{unwrap_or_range}
 use Rattle.clap.specs.Lexer.{long_of, short_of}
 use Rattle.clap.specs.ValueTests.{accepts}
 use Rattle.clap.specs.Kinds.{FailsBy, Kinds, or_else, range_kinds, value_kinds, values_kinds}
-use Rattle.clap.specs.Walk.{Held, Names, Row, Rule, Step, Text, Waiting, Walk, value, next, trailing, subcommand, action_of, arg_by_id, arg_by_index, arg_by_long, arg_by_short, attached_value, has_row, is_pending, most_values, nothing_held, reacted, settled, subcommand_met, takes_several, takes_values, values_or_missing, walk, walk_from, walked, word_met, finished}
+use Rattle.clap.specs.Walk.{Held, Names, Row, Rule, Step, Text, Waiting, Walk, value, next, trailing, subcommand, action_of, arg_by_id, arg_by_index, arg_by_long, arg_by_short, attached_value, has_row, is_pending, most_values, nothing_held, reacted, settled, subcommand_met, takes_several, takes_values, values_or_missing, walk, walk_from, walked, word_met}
 use Rattle.clap.specs.Simple.{App, Shape, built}
 use Rattle.clap.specs.declared.error.Error.{Error}
-use Rattle.clap.specs.Takes.{values_pass, count_passes, set_passes, action_passes, use_passes, settle_passes, react_passes, option_passes, long_passes, short_passes, bundle_step_passes, flags_pass, bundle_passes, flag_word_passes, other_passes, word_passes, positional_passes, step_passes, turn_passes, walk_passes, level_passes, takes}
+use Rattle.clap.specs.Takes.{count_passes, set_passes, action_passes, use_passes, settle_passes, react_passes, option_passes, long_passes, short_passes, bundle_step_passes, flags_pass, bundle_passes, flag_word_passes, other_passes, word_passes, positional_passes, step_passes, turn_passes, walk_passes, level_passes}
 use Rattle.clap.specs.Faults.{values_fault, count_fault, repeat_fault, set_fault, action_fault, use_fault, settle_fault, react_fault, option_fault, long_fault, short_fault, bundle_step_fault, flags_fault, bundle_fault, flag_word_fault, other_fault, word_fault, positional_fault, stray_fault, step_fault, turn_fault, walk_fault, level_fault, fault_of, is_simple_and_free}
 use Rattle.clap.proofs.TakesLemmas.{leaf_takes}
 use Rattle.clap.proofs.FaultLemmas.{leaf_fault}
@@ -60,7 +60,7 @@ in_bounds least most n e = by (least == most) refl (past_kind _ _ _ e).1
   where
     by : (b : Bool) → (least == most) ≡ b
         → cond b (cond (least == n) [] (kind.WrongNumberOfValues ∷ []))
-          (cond (nat_lt n least) (kind.TooFewValues ∷ []) (cond (nat_lt most n) (kind.TooManyValues ∷ []) [])) ≡ []
+        (cond (nat_lt n least) (kind.TooFewValues ∷ []) (cond (nat_lt most n) (kind.TooManyValues ∷ []) [])) ≡ []
         → (nat_le least n ≡ true) × (nat_le n most ≡ true)
     by true same e =
         let one : least ≡ n = eqb-true least n (passing (least == n) kind.WrongNumberOfValues e) in
@@ -103,7 +103,7 @@ action_ok action.Version again a values rows e = absurd (some_kind _ _ e)
 use_ok : (again : Bool) (a : Rule) (values : List Text) (rows : List Row) → use_fault again a values rows ≡ [] → use_passes again a values rows ≡ true
 use_ok again a values rows e =
     let both = nil_parts (range_kinds (unwrap_or_range a.range).start_inclusive (most_values a) (length values))
-            (action_fault (action_of a) again a (values_or_missing a values) rows) e in
+    (action_fault (action_of a) again a (values_or_missing a values) rows) e in
     let bounds = in_bounds (unwrap_or_range a.range).start_inclusive (most_values a) (length values) both.0 in
     and_true _ _ bounds.0 (and_true _ _ bounds.1 (action_ok (action_of a) again a (values_or_missing a values) rows both.1))
 

@@ -1,15 +1,10 @@
 -- Assigned values are one wish or have one first fault, and what that makes of an answer.
-use Rattle.std.proofs.Common.{◌≡◌, ◌∙◌, refl, ap, sym, arith, ◌⊎◌, inl, inr, ℕ, Bool, true, false, Option, Some, None, unwrap_or, List, [], ◌∷◌, ◌++◌, ◌&&◌, length, get_or, Ok, Err, IfOk, IfErr, subst}
-use Rattle.std.specs.Prelude.{Result, MatchResult}
-use Rattle.std.specs.List.{list_all}
-use Rattle.std.proofs.lemmas.Bool.{both_ways}
-use Rattle.clap.specs.Words.{Row, Text}
-use Rattle.cr_words.specs.Commands.{are_taken, assigned, assigned_in, rows_in}
+use Rattle.std.proofs.Common.{◌≡◌, ◌∙◌, refl, ap, sym, arith, ◌⊎◌, inl, inr, ℕ, Bool, true, false, Option, Some, None, unwrap_or, List, [], ◌∷◌, length, get_or}
 use Rattle.cr_words.specs.Values.{Assigned, IsWishOf, workers_of, turns_of, number_for, mode_of, is_mixed, when, faults_of}
-use Rattle.cr_words.specs.Readings.{IsFirst, ReadsAs, IsFirstFault, MayFail}
+use Rattle.cr_words.specs.Readings.{IsFirst}
 use Rattle.cr_words.proofs.Faults.{first_workers, first_turns, first_number, first_mode, first_mixed, past_mode}
 use Rattle.cr_words.specs.declared.fault.WordsFault.{WordsFault}
-use Rattle.cr_words.specs.declared.fault.WordsFault.TheVariants.{Line, Workers, Turns, Number, Mode as NoMode, Mixed, NoMemory}
+use Rattle.cr_words.specs.declared.fault.WordsFault.TheVariants.{Workers, Turns, Number, Mode as NoMode, Mixed}
 use Rattle.cr_words.specs.declared.wish.Wish.{Wish}
 use Rattle.cr_words.specs.declared.wish.Mode.{Mode}
 

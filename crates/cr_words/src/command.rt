@@ -4,7 +4,7 @@ ghost use Rattle.std.specs.Prelude.{◌≡◌, IfOk, IfErr, true, false, Bool, [
 ghost use Rattle.clap.specs.Words.{found_of, rows_of, rule_of, app_of, with_rule, kind_of};
 ghost use Rattle.cr_words.specs.Commands.{ring_app, bare_app, option_with, texts_of, rows_in, are_taken};
 ghost use Rattle.clap.specs.declared.error.kind.ErrorKind.TheVariants.{OutOfMemory};
-ghost use Rattle.cr_words.specs.Readings.{IsRefused};
+ghost use Rattle.cr_words.specs.Readings.{IsRefused, MayFail};
 
 use crate::WordsFault;
 use clap::error::ErrorKind;
@@ -79,7 +79,7 @@ fn parsed<'a>(alloc: Global, words: &'a [String]) -> Result<ArgMatches<'a>, Erro
 pub fn matches_in<'a>(alloc: Global, words: &'a [String]) -> Result<ArgMatches<'a>, WordsFault>
     ensures ok { IfOk result (λ m. rows_of (found_of m) ≡ rows_in (texts_of words.entry.now)) }
     ensures taken { IfOk result (λ _. are_taken (texts_of words.entry.now) ≡ true) }
-    ensures refused { IfErr result (IsRefused (are_taken (texts_of words.entry.now))) }
+    ensures fails { IfErr result (MayFail (texts_of words.entry.now)) }
 {
     match parsed(alloc, words) {
         Ok(matches) => Ok(matches),

@@ -5,7 +5,7 @@ ghost use Rattle.std.specs.List.{list_all};
 ghost use Rattle.clap.specs.Words.{Text};
 ghost use Rattle.cr_words.specs.Commands.{are_taken};
 ghost use Rattle.cr_words.specs.Examples.{line, accent, is_line_taken, line_faults};
-ghost use Rattle.cr_words.specs.Readings.{ReadsAs, IsFirstFault};
+ghost use Rattle.cr_words.specs.Readings.{ReadsAs, IsAccepted, IsFaultOf};
 ghost use Rattle.cr_words.specs.declared.fault.WordsFault.TheVariants as fault;
 ghost use Rattle.cr_words.specs.declared.wish.Mode.TheVariants as mode;
 
@@ -16,11 +16,11 @@ pub fn words_read_as_one_wish()
     ensures { (words : List Text) (one other : Wish) → ReadsAs words one → ReadsAs words other → one ≡ other }
 {}
 
-/// Words either read as a wish or have one first fault.
-pub fn words_are_a_wish_or_have_a_first_fault()
-    ensures some { (words : List Text) → ((wish : Wish) × ReadsAs words wish) ⊎ ((fault : WordsFault) × IsFirstFault words fault) }
-    ensures apart { (words : List Text) (wish : Wish) (fault : WordsFault) → ReadsAs words wish → IsFirstFault words fault → ⊥ }
-    ensures one { (words : List Text) (one other : WordsFault) → IsFirstFault words one → IsFirstFault words other → one ≡ other }
+/// Words are either accepted as a wish or have one fault.
+pub fn words_are_accepted_or_have_a_fault()
+    ensures some { (words : List Text) → ((wish : Wish) × IsAccepted words wish) ⊎ ((fault : WordsFault) × IsFaultOf words fault) }
+    ensures apart { (words : List Text) (wish : Wish) (fault : WordsFault) → IsAccepted words wish → IsFaultOf words fault → ⊥ }
+    ensures one { (words : List Text) (one other : WordsFault) → IsFaultOf words one → IsFaultOf words other → one ≡ other }
 {}
 
 /// No word at all is taken, and so are values of any kind behind a name or `=`, and a lone `--`. An unknown option, one

@@ -1,4 +1,4 @@
-use Rattle.std.proofs.Common.{◌≡◌, ◌∙◌, sym}
+use Rattle.std.proofs.Common.{◌∙◌, sym}
 use Rattle.cr_words.proofs.Digits.{parsed_is, not_number}
 use Rattle.cr_words.proofs.numbers.number_in.Goals as goal
 
