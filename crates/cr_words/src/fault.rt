@@ -1,6 +1,5 @@
 //! Why words are no wish.
 
-use std::alloc::AllocError;
 use thiserror::Error;
 
 /// Why words are no wish: the first that is wrong, in the order of the variants.
@@ -28,15 +27,4 @@ pub enum WordsFault {
     /// There was not enough memory.
     #[error("there is no memory")]
     NoMemory,
-}
-
-impl From<AllocError> for WordsFault {
-    ghost use Rattle.std.specs.Prelude.{◌≡◌};
-    ghost use Rattle.cr_words.specs.declared.fault.WordsFault.TheVariants.{NoMemory};
-
-    ghost from_gives = { λ _ e. e ≡ NoMemory };
-
-    fn from(_refused: AllocError) -> WordsFault {
-        WordsFault::NoMemory
-    }
 }

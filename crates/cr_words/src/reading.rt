@@ -26,7 +26,8 @@ fn wish_in(alloc: Global, words: &[String]) -> Result<Wish, WordsFault>
 pub fn read_words(alloc: Global, words: &[String]) -> Result<Wish, WordsFault>
     ensures ok { IfOk result (IsAccepted (texts_of words.now)) }
     ensures fails { IfErr result (MayFail (texts_of words.now)) }
-    ensures accepted { (wish : Wish) → IsAccepted (texts_of words.now) wish → (result ≡ Ok wish) ⊎ (result ≡ Err NoMemory) }
+    ensures accepted { (wish : Wish) → IsAccepted (texts_of words.now) wish
+        → (result ≡ Ok wish) ⊎ (result ≡ Err NoMemory) }
     ensures refused { (fault : WordsFault) → IsFaultOf (texts_of words.now) fault
         → (result ≡ Err fault) ⊎ (result ≡ Err NoMemory) }
 {

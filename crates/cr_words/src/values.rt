@@ -4,7 +4,8 @@ ghost use Rattle.std.specs.Prelude.{◌≡◌, MatchResult, option_map};
 ghost use Rattle.clap.specs.Words.{found_of, rows_of, first_of};
 ghost use Rattle.clap.specs.Takes as clap_takes;
 ghost use Rattle.cr_words.specs.Commands.{assigned_in};
-ghost use Rattle.cr_words.specs.Values.{IsWishOf, faults_of, workers_of, turns_of, number_for, mode_of, is_to, is_mixed};
+ghost use Rattle.cr_words.specs.Values.{IsWishOf, faults_of, workers_of, turns_of, number_for};
+ghost use Rattle.cr_words.specs.Values.{mode_of, is_to, is_mixed};
 ghost use Rattle.cr_words.specs.Readings.{IsFirst};
 
 use crate::numbers::{number_between, small_between};
