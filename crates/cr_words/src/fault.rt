@@ -1,0 +1,30 @@
+//! Why words are no wish.
+
+use thiserror::Error;
+
+/// Why words are no wish: the first that is wrong, in the order of the variants.
+#[derive(Clone, Copy, Debug, PartialEq, Eq, Drop, Error)]
+pub enum WordsFault {
+    /// The words are not those of the command line: an unknown option, one given twice or without its value, a word
+    /// that belongs to no option, or a request for help or the version.
+    #[error("the words are not --workers, --turns, --do and --number, each once at most and with its value")]
+    Line,
+    /// The workers are not a number from 1 to 64.
+    #[error("--workers is not a number from 1 to 64")]
+    Workers,
+    /// The turns are not a number from 0 to 2^63 - 1.
+    #[error("--turns is not a number from 0 to 9223372036854775807")]
+    Turns,
+    /// The number of a made problem is not a number from 0 to 2^32 - 1.
+    #[error("--number is not a number from 0 to 4294967295")]
+    Number,
+    /// What is to be done is neither `search` nor `make`.
+    #[error("--do is neither search nor make")]
+    Mode,
+    /// `--number` was given for a search, or `--turns` for a made problem.
+    #[error("--number goes with --do make alone, and --turns with --do search alone")]
+    Mixed,
+    /// There was not enough memory.
+    #[error("there is no memory")]
+    NoMemory,
+}

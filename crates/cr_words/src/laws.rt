@@ -1,0 +1,80 @@
+//! Laws of words and wishes. Each is the contract of a function that does nothing.
+
+ghost use Rattle.std.specs.Prelude.{◌≡◌, ◌⊎◌, true, not, Some, None, List, [], ◌∷◌, ◌++◌, map, codes};
+ghost use Rattle.std.specs.List.{list_all};
+ghost use Rattle.clap.specs.Words.{Text};
+ghost use Rattle.cr_words.specs.Commands.{are_taken};
+ghost use Rattle.cr_words.specs.Examples.{line, accent, is_line_taken, line_faults};
+ghost use Rattle.cr_words.specs.Readings.{ReadsAs, IsAccepted, IsFaultOf};
+ghost use Rattle.cr_words.specs.declared.fault.WordsFault.TheVariants as fault;
+ghost use Rattle.cr_words.specs.declared.wish.Mode.TheVariants as mode;
+
+use crate::{Wish, WordsFault};
+
+/// Words read as one wish at most.
+pub fn words_read_as_one_wish()
+    ensures { (words : List Text) (one other : Wish) → ReadsAs words one → ReadsAs words other → one ≡ other }
+{}
+
+/// Words are either accepted as a wish or have one fault.
+pub fn words_are_accepted_or_have_a_fault()
+    ensures some { (words : List Text)
+        → ((wish : Wish) × IsAccepted words wish) ⊎ ((fault : WordsFault) × IsFaultOf words fault) }
+    ensures apart { (words : List Text) (wish : Wish) (fault : WordsFault)
+        → IsAccepted words wish → IsFaultOf words fault → ⊥ }
+    ensures one { (words : List Text) (one other : WordsFault)
+        → IsFaultOf words one → IsFaultOf words other → one ≡ other }
+{}
+
+/// No word at all is taken, and so are values of any kind behind a name or `=`, and a lone `--`. An unknown option, one
+/// given twice or without its value, part of a name, a stray word, and requests for help and version are not.
+pub fn lines_are_taken_or_not()
+    ensures nothing { are_taken [] ≡ true }
+    ensures taken { list_all is_line_taken (codes "--workers 3" ∷ codes "--workers=3" ∷ codes "--turns=5"
+        ∷ codes "--turns 5" ∷ codes "--workers=" ∷ codes "--workers " ∷ codes "--do find" ∷ codes "--turns=-1"
+        ∷ (codes "--number " ++ accent) ∷ codes "--" ∷ codes "--do make --number 7 --workers 64" ∷ []) ≡ true }
+    ensures not_taken { list_all (λ text. not (is_line_taken text)) (codes "--bells" ∷ codes "--workers"
+        ∷ codes "--workers --turns" ∷ codes "--turns 1 --turns 2" ∷ codes "--do=make --do=make" ∷ codes "--turns -1"
+        ∷ codes "--work 3" ∷ codes "find" ∷ codes "" ∷ accent ∷ codes "-- 5" ∷ codes "-t 5" ∷ codes "--help"
+        ∷ codes "-h" ∷ codes "--version" ∷ codes "help" ∷ codes "--workers 3 " ∷ []) ≡ true }
+{}
+
+/// Lines and their wishes, at the edges of the numbers. Leading zeros are taken.
+pub fn lines_read_as_wishes()
+    ensures nothing { ReadsAs [] (record { workers = 1; turns = None; mode = mode.Search }) }
+    ensures after_equals { ReadsAs (line (codes "--turns=5"))
+        (record { workers = 1; turns = Some 5; mode = mode.Search }) }
+    ensures after_a_space { ReadsAs (line (codes "--turns 5"))
+        (record { workers = 1; turns = Some 5; mode = mode.Search }) }
+    ensures zeros { ReadsAs (line (codes "--turns 007 --workers 00064"))
+        (record { workers = 64; turns = Some 7; mode = mode.Search }) }
+    ensures most_turns { ReadsAs (line (codes "--turns 9223372036854775807"))
+        (record { workers = 1; turns = Some 9223372036854775807; mode = mode.Search }) }
+    ensures no_turns { ReadsAs (line (codes "--turns 0"))
+        (record { workers = 1; turns = Some 0; mode = mode.Search }) }
+    ensures made { ReadsAs (line (codes "--do make"))
+        (record { workers = 1; turns = None; mode = mode.Make 0 }) }
+    ensures most_made { ReadsAs (line (codes "--number 4294967295 --do make --workers=1"))
+        (record { workers = 1; turns = None; mode = mode.Make 4294967295 }) }
+    ensures lone { ReadsAs (line (codes "--")) (record { workers = 1; turns = None; mode = mode.Search }) }
+{}
+
+/// Lines and all that is wrong with what they assign, in the order of the faults. A number has one to nineteen digits
+/// and no sign.
+pub fn lines_have_faults()
+    ensures workers { map line_faults (codes "--workers 0" ∷ codes "--workers 65" ∷ codes "--workers="
+        ∷ codes "--workers +5" ∷ [])
+        ≡ (fault.Workers ∷ []) ∷ (fault.Workers ∷ []) ∷ (fault.Workers ∷ []) ∷ (fault.Workers ∷ []) ∷ [] }
+    ensures turns { map line_faults (codes "--turns 9223372036854775808" ∷ codes "--turns 00000000000000000005"
+        ∷ codes "--turns=" ∷ (codes "--turns " ++ accent) ∷ [])
+        ≡ (fault.Turns ∷ []) ∷ (fault.Turns ∷ []) ∷ (fault.Turns ∷ []) ∷ (fault.Turns ∷ []) ∷ [] }
+    ensures modes { map line_faults (codes "--do find" ∷ codes "--do=" ∷ codes "--do Search"
+        ∷ codes "--do find --number 1" ∷ [])
+        ≡ (fault.Mode ∷ []) ∷ (fault.Mode ∷ []) ∷ (fault.Mode ∷ []) ∷ (fault.Mode ∷ []) ∷ [] }
+    ensures mixed { map line_faults (codes "--do make --turns 5" ∷ codes "--number 1" ∷ codes "--number 0" ∷ [])
+        ≡ (fault.Mixed ∷ []) ∷ (fault.Mixed ∷ []) ∷ (fault.Mixed ∷ []) ∷ [] }
+    ensures many { map line_faults (codes "--do make --number 4294967296" ∷ codes "--number x"
+        ∷ codes "--do make --turns x" ∷ codes "--do z --number y --turns x --workers w" ∷ [])
+        ≡ (fault.Number ∷ []) ∷ (fault.Number ∷ fault.Mixed ∷ []) ∷ (fault.Turns ∷ fault.Mixed ∷ [])
+        ∷ (fault.Workers ∷ fault.Turns ∷ fault.Number ∷ fault.Mode ∷ []) ∷ [] }
+{}
