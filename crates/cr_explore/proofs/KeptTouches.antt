@@ -1,12 +1,12 @@
 -- When the touch of a node is kept.
-use Rattle.std.proofs.Common.{◌≡◌, ◌≢◌, ℕ, zero, suc, ◌+◌, ◌*◌, ◌/◌, ◌≤◌, ◌↔◌, true, pos, ◌≤ℤ◌, nat_eq, List, [], ◌∷◌, length, take, All, Option, Some, None, is_none, append-nil, refl, sym, ap, ◌∙◌, subst, arith}
+use Rattle.std.proofs.Common.{◌≡◌, ◌≢◌, ℕ, zero, suc, ◌+◌, ◌*◌, ◌/◌, ◌≤◌, ◌↔◌, true, pos, ◌≤ℤ◌, nat_eq, List, [], ◌∷◌, length, take, All, Option, Some, None, is_none, refl, sym, ap, ◌∙◌, subst, arith}
 use Rattle.std.proofs.lemmas.Bool.{and_parts, false≢true}
 use Rattle.std.proofs.Common.{eqb-true}
 use Rattle.std.proofs.lemmas.List.{take_all}
 use Rattle.cr_model.specs.declared.query.Com.{Com}
 use Rattle.cr_model.specs.Problems.{PatternParts, ProblemParts}
-use Rattle.cr_model.specs.Callings.{HasSteps, rows_of, length_of, AllDiffer}
-use Rattle.cr_model.specs.Queries.{cap, repeated, IsWithin, rows_fitting, MeetsCom, changes_of_method}
+use Rattle.cr_model.specs.Callings.{rows_of, length_of, AllDiffer}
+use Rattle.cr_model.specs.Queries.{repeated, IsWithin, rows_fitting, MeetsCom, changes_of_method}
 use Rattle.cr_model.specs.Nodes.{part_of, IsValid}
 use Rattle.cr_model.specs.Dead.{parts_of, turn_free}
 use Rattle.cr_model.specs.OneTurn.{touch_of}
