@@ -1,25 +1,22 @@
 -- How many entries the journal gets, and what answers tell of the end.
-use Rattle.std.proofs.Common.{◌≡◌, ℕ, zero, suc, ◌+◌, ◌-◌, ◌<◌, ◌≤◌, Bool, true, false, cond, nat_eq, List, [], ◌∷◌, ◌++◌, length, get_or, sum_by, flat_map, Option, Some, None, is_some, option_map, inl, inr, refl, sym, ap, ◌∙◌, subst, arith, length-append}
+use Rattle.std.proofs.Common.{◌≡◌, ℕ, suc, ◌+◌, ◌-◌, ◌<◌, Bool, false, List, [], ◌∷◌, ◌++◌, length, flat_map, Option, Some, None, option_map, inl, inr, refl, sym, ap, ◌∙◌, arith, length-append}
 use Rattle.std.specs.Prelude.{find}
 use Rattle.std.specs.Option.{option_or}
 use Rattle.std.specs.List.{range_with_len}
-use Rattle.std.proofs.lemmas.Bool.{cases_lt, eqb-true}
+use Rattle.std.proofs.lemmas.Bool.{cases_lt}
 use Rattle.std.proofs.lemmas.Option.{none-some}
 use Rattle.std.proofs.lemmas.List.Concat.{flat_map-cons}
 use Rattle.std.proofs.lemmas.List.Folds.{find-append}
-use Rattle.std.proofs.lemmas.List.Sums.{sum_by-cons}
 use Rattle.cr_node.specs.Work.{Work}
-use Rattle.cr_board.specs.Jobs.{JobParts}
-use Rattle.cr_board.specs.Boards.{BoardParts, held_at, held_jobs, held_grant, jobs_of, promised}
+use Rattle.cr_board.specs.Boards.{BoardParts, held_at, held_jobs, jobs_of}
 use Rattle.cr_board.specs.Halls.{backs}
 use Rattle.cr_board.specs.Partitions.{HasShape}
-use Rattle.cr_board.specs.Choices.{is_stranger, is_spent, refusal_to, refusal_of, is_busy, is_holding, first_from, round, end_of, next_place, claim_place, waits_for, answer_by, next_answer, claimed_by, claim_answer, entries_taken, entries_claimed}
+use Rattle.cr_board.specs.Choices.{refusal_of, is_busy, is_holding, first_from, round, end_of, next_place, claim_place, waits_for, answer_by, next_answer, claimed_by, claim_answer, entries_taken, entries_claimed}
 use Rattle.cr_board.specs.Moves.{after_ask, after_next, after_claim, handed_in, put_back, after_resigning, after_recall}
 use Rattle.cr_board.specs.declared.held.Held.{Held}
 use Rattle.cr_board.specs.declared.place.Place.{Place}
 use Rattle.cr_board.specs.declared.refusal.Refusal.{Refusal}
 use Rattle.cr_board.specs.declared.refusal.Refusal.TheVariants as refusal
-use Rattle.cr_board.specs.declared.taken.Taken.{Taken}
 use Rattle.cr_board.specs.declared.taken.Taken.TheVariants as taken
 use Rattle.cr_board.specs.declared.entry.Entry.{Entry}
 use Rattle.cr_board.proofs.Finding.{none_is, none_found}
@@ -84,8 +81,10 @@ none_round test worker workers inside none = none_is test 0 (workers - 0) (λ k 
     upper : (first : Option ℕ) → find test (range_with_len worker (workers - worker)) ≡ first → (find test (range_with_len worker (workers - worker)) ≡ None) × (find test (range_with_len 0 worker) ≡ None)
     upper None e = (e, sym (ap (λ o. option_or o (find test (range_with_len 0 worker))) e) ∙ sym (find-append test (range_with_len worker (workers - worker)) (range_with_len 0 worker)) ∙ none)
     upper (Some x) e = absurd (none-some x (sym (sym (ap (λ o. option_or o (find test (range_with_len 0 worker))) e) ∙ sym (find-append test (range_with_len worker (workers - worker)) (range_with_len 0 worker)) ∙ none)))
+
     both : (find test (range_with_len worker (workers - worker)) ≡ None) × (find test (range_with_len 0 worker) ≡ None)
     both = upper (find test (range_with_len worker (workers - worker))) refl
+
     fails : (k : ℕ) → k < workers → test k ≡ false
     fails k below = elim (cases_lt k worker) [
       | inl low ↦ let at : k ≡ 0 + k = omega arith in ap test at ∙ none_found test 0 worker both.1 k low
@@ -103,9 +102,11 @@ module _ (b : BoardParts) (shape : HasShape b) (worker : ℕ) where
           cases : (lane : Option ℕ) → find (is_busy b.lanes) (round worker b.opening.workers) ≡ lane → find (is_busy b.lanes) (round worker b.opening.workers) ≡ None
           cases None e = e
           cases (Some lane) e = absurd (none-some (end_of b worker lane) (sym (sym (ap (option_map (end_of b worker)) e) ∙ none)))
+
       free : (least : Option ℕ) → first_from (is_holding b.held) 0 b.opening.workers ≡ least → waits_for least ≡ taken.Empty → first_from (is_holding b.held) 0 b.opening.workers ≡ None
       free None e h = e
       free (Some other) e h = cc
+
       by : (r : Option Refusal) → refusal_of b worker ≡ r → (place : Option Place) → next_place b worker ≡ place → answer_by b r place ≡ taken.Empty → jobs_of b ≡ []
       by (Some refusal.Stranger) e place f h = cc
       by (Some (refusal.Holding number)) e place f h = cc
@@ -114,5 +115,5 @@ module _ (b : BoardParts) (shape : HasShape b) (worker : ℕ) where
       by None e None f h =
           let inside = (free_from b worker e).worker in
           none_left b.lanes b.held
-            (ap (first_from (is_busy b.lanes) 0) shape.lanes ∙ none_round (is_busy b.lanes) worker b.opening.workers inside (idle f))
-            (ap (first_from (is_holding b.held) 0) shape.held ∙ free (first_from (is_holding b.held) 0 b.opening.workers) refl h)
+          (ap (first_from (is_busy b.lanes) 0) shape.lanes ∙ none_round (is_busy b.lanes) worker b.opening.workers inside (idle f))
+          (ap (first_from (is_holding b.held) 0) shape.held ∙ free (first_from (is_holding b.held) 0 b.opening.workers) refl h)
