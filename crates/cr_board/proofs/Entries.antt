@@ -84,8 +84,10 @@ none_round test worker workers inside none = none_is test 0 (workers - 0) (λ k 
     upper : (first : Option ℕ) → find test (range_with_len worker (workers - worker)) ≡ first → (find test (range_with_len worker (workers - worker)) ≡ None) × (find test (range_with_len 0 worker) ≡ None)
     upper None e = (e, sym (ap (λ o. option_or o (find test (range_with_len 0 worker))) e) ∙ sym (find-append test (range_with_len worker (workers - worker)) (range_with_len 0 worker)) ∙ none)
     upper (Some x) e = absurd (none-some x (sym (sym (ap (λ o. option_or o (find test (range_with_len 0 worker))) e) ∙ sym (find-append test (range_with_len worker (workers - worker)) (range_with_len 0 worker)) ∙ none)))
+
     both : (find test (range_with_len worker (workers - worker)) ≡ None) × (find test (range_with_len 0 worker) ≡ None)
     both = upper (find test (range_with_len worker (workers - worker))) refl
+
     fails : (k : ℕ) → k < workers → test k ≡ false
     fails k below = elim (cases_lt k worker) [
       | inl low ↦ let at : k ≡ 0 + k = omega arith in ap test at ∙ none_found test 0 worker both.1 k low
@@ -103,9 +105,11 @@ module _ (b : BoardParts) (shape : HasShape b) (worker : ℕ) where
           cases : (lane : Option ℕ) → find (is_busy b.lanes) (round worker b.opening.workers) ≡ lane → find (is_busy b.lanes) (round worker b.opening.workers) ≡ None
           cases None e = e
           cases (Some lane) e = absurd (none-some (end_of b worker lane) (sym (sym (ap (option_map (end_of b worker)) e) ∙ none)))
+
       free : (least : Option ℕ) → first_from (is_holding b.held) 0 b.opening.workers ≡ least → waits_for least ≡ taken.Empty → first_from (is_holding b.held) 0 b.opening.workers ≡ None
       free None e h = e
       free (Some other) e h = cc
+
       by : (r : Option Refusal) → refusal_of b worker ≡ r → (place : Option Place) → next_place b worker ≡ place → answer_by b r place ≡ taken.Empty → jobs_of b ≡ []
       by (Some refusal.Stranger) e place f h = cc
       by (Some (refusal.Holding number)) e place f h = cc
@@ -114,5 +118,5 @@ module _ (b : BoardParts) (shape : HasShape b) (worker : ℕ) where
       by None e None f h =
           let inside = (free_from b worker e).worker in
           none_left b.lanes b.held
-            (ap (first_from (is_busy b.lanes) 0) shape.lanes ∙ none_round (is_busy b.lanes) worker b.opening.workers inside (idle f))
-            (ap (first_from (is_holding b.held) 0) shape.held ∙ free (first_from (is_holding b.held) 0 b.opening.workers) refl h)
+          (ap (first_from (is_busy b.lanes) 0) shape.lanes ∙ none_round (is_busy b.lanes) worker b.opening.workers inside (idle f))
+          (ap (first_from (is_holding b.held) 0) shape.held ∙ free (first_from (is_holding b.held) 0 b.opening.workers) refl h)
