@@ -19,3 +19,4 @@ pub mod Recalled
 pub mod Stale
 pub mod Appending
 pub mod Entries
+pub mod Resigning

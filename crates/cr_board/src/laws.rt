@@ -100,6 +100,11 @@ pub fn a_recall_gives_all_back()
     ensures journal { (b : BoardParts) → HasShape b → (after_recall b).journal ≡ b.journal ++ backs 0 b.held }
 {}
 
+/// To resign again changes nothing.
+pub fn a_second_resignation_changes_nothing()
+    ensures { (b : BoardParts) (worker : ℕ) → after_resigning (after_resigning b worker) worker ≡ after_resigning b worker }
+{}
+
 /// A number that is claimed has no place exactly where it stands in no lane.
 pub fn stale_numbers_stand_nowhere()
     ensures { (b : BoardParts) (number : ℕ) → length b.lanes ≡ b.opening.workers
