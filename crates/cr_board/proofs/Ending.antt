@@ -42,7 +42,7 @@ is_none_from None e = refl
 is_none_from (Some x) e = absurd (false≢true (sym e))
 
 module _ (lanes : List (List JobParts)) (held : List (Option Held)) where
-  none_left : first_from (is_busy lanes) 0 (length lanes) ≡ None → first_from (is_holding held) 0 (length held) ≡ None → jobs_in lanes held ≡ []
+  pub none_left : first_from (is_busy lanes) 0 (length lanes) ≡ None → first_from (is_holding held) 0 (length held) ≡ None → jobs_in lanes held ≡ []
   none_left idle free =
       let number : length lanes - 0 ≡ length lanes = omega arith in
       let count : length held - 0 ≡ length held = omega arith in

@@ -18,3 +18,5 @@ pub mod Hunts
 pub mod Recalled
 pub mod Stale
 pub mod Appending
+pub mod Entries
+pub mod Resigning

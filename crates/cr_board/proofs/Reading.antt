@@ -67,7 +67,7 @@ same_at some more i a b inside within is at same =
     ∙ get_or-map (λ job. job.items) more i b [] within ∙ ap (λ job. job.items) (sym at)
 
 -- a write over a write
-set_again : {X : Type 0} (xs : List X) (i : ℕ) (x y : X) → set (set xs i x) i y ≡ set xs i y
+pub set_again : {X : Type 0} (xs : List X) (i : ℕ) (x y : X) → set (set xs i x) i y ≡ set xs i y
 set_again [] i x y = refl
 set_again (z ∷ xs) zero x y = refl
 set_again (z ∷ xs) (suc i) x y = ap (λ l. z ∷ l) (set_again xs i x y)

@@ -130,3 +130,19 @@ UnlessClaimed (claimed.Holding number) P = P
 UnlessClaimed claimed.Spent P = P
 UnlessClaimed claimed.Stale P = P
 UnlessClaimed (claimed.Job ticket) P = ⊤
+
+-- how many entries the journal gets by an answer
+abbrev pub entries_taken : Taken → ℕ
+entries_taken taken.Stranger = 0
+entries_taken (taken.Holding number) = 0
+entries_taken taken.Spent = 0
+entries_taken (taken.Job ticket) = 1
+entries_taken (taken.Wait worker) = 0
+entries_taken taken.Empty = 0
+
+abbrev pub entries_claimed : Claimed → ℕ
+entries_claimed claimed.Stranger = 0
+entries_claimed (claimed.Holding number) = 0
+entries_claimed claimed.Spent = 0
+entries_claimed claimed.Stale = 0
+entries_claimed (claimed.Job ticket) = 1

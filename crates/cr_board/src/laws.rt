@@ -1,14 +1,15 @@
 //! Laws of boards. Each is the contract of a function that does nothing.
 
-ghost use Rattle.std.specs.Prelude.{◌≡◌, ℕ, ◌+◌, ◌≤◌, ◌++◌, ◌↔◌, List, [], ◌∷◌, Some, None, length, map, sum_by, Contains};
+ghost use Rattle.std.specs.Prelude.{◌≡◌, ℕ, ◌+◌, ◌≤◌, ◌++◌, ◌↔◌, List, [], ◌∷◌, Some, None, length, map, flat_map, sum_by, Contains};
 ghost use Rattle.cr_model.specs.Nodes.{Covers};
 ghost use Rattle.cr_model.specs.Sizes.{most_rows, size_of_all};
+ghost use Rattle.cr_node.specs.Work.{Work};
 ghost use Rattle.cr_board.specs.Jobs.{OpeningParts, IsOpening, opening_nodes};
 ghost use Rattle.cr_board.specs.Boards.{BoardParts, opened, lane_at, held_at, held_jobs, jobs_of, nodes_of};
 ghost use Rattle.cr_board.specs.Halls.{IsReplayed, IsAllowed, AreAllowed, start, replay, times_in, grant_of, granted, numbers_of, backs};
 ghost use Rattle.cr_board.specs.Partitions.{HasShape, Partition};
-ghost use Rattle.cr_board.specs.Choices.{round, next_answer, claim_place, claim_answer};
-ghost use Rattle.cr_board.specs.Moves.{halves, after_recall};
+ghost use Rattle.cr_board.specs.Choices.{round, next_answer, claim_place, claim_answer, entries_taken, entries_claimed};
+ghost use Rattle.cr_board.specs.Moves.{halves, after_next, after_claim, handed_in, after_resigning, after_recall};
 ghost use Rattle.cr_board.specs.Steps.{EventStep, Ran};
 ghost use Rattle.cr_board.specs.Examples.{two_jobs, script};
 ghost use Rattle.cr_board.specs.declared.event.Event.{Event};
@@ -70,6 +71,26 @@ pub fn events_only_append()
     ensures opening { (b after : BoardParts) (event : Event) → EventStep b event after → after.opening ≡ b.opening }
 {}
 
+/// An answer that is a job, and a hand-in that is taken, have one entry each in the journal; other answers have none. A
+/// resignation has one for a held job, and a recall one for each.
+pub fn journals_grow_by_their_entries()
+    ensures next { (b : BoardParts) (worker : ℕ)
+        → length (after_next b worker).journal ≡ length b.journal + entries_taken (next_answer b worker) }
+    ensures claimed { (b : BoardParts) (worker number : ℕ)
+        → length (after_claim b worker number).journal ≡ length b.journal + entries_claimed (claim_answer b worker number) }
+    ensures hand { (b : BoardParts) (worker number : ℕ) (work : Work)
+        → length (handed_in b worker number work).journal ≡ length b.journal + 1 }
+    ensures resigned { (b : BoardParts) (worker : ℕ)
+        → length (after_resigning b worker).journal ≡ length b.journal + length (held_jobs (held_at b.held worker)) }
+    ensures recalled { (b : BoardParts) → HasShape b
+        → length (after_recall b).journal ≡ length b.journal + length (flat_map held_jobs b.held) }
+{}
+
+/// Where a worker is answered that all is empty, no job is left.
+pub fn an_empty_board_is_done()
+    ensures { (b : BoardParts) (worker : ℕ) → HasShape b → next_answer b worker ≡ taken.Empty → jobs_of b ≡ [] }
+{}
+
 /// After a recall nobody holds a job, each lane has at its end what its worker held, and the journal has a Back for each
 /// held job, in the order of the workers.
 pub fn a_recall_gives_all_back()
@@ -77,6 +98,11 @@ pub fn a_recall_gives_all_back()
     ensures lanes { (b : BoardParts) → HasShape b → (worker : ℕ)
         → lane_at (after_recall b).lanes worker ≡ lane_at b.lanes worker ++ held_jobs (held_at b.held worker) }
     ensures journal { (b : BoardParts) → HasShape b → (after_recall b).journal ≡ b.journal ++ backs 0 b.held }
+{}
+
+/// To resign again changes nothing.
+pub fn a_second_resignation_changes_nothing()
+    ensures { (b : BoardParts) (worker : ℕ) → after_resigning (after_resigning b worker) worker ≡ after_resigning b worker }
 {}
 
 /// A number that is claimed has no place exactly where it stands in no lane.

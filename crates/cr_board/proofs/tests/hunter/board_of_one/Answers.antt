@@ -1,4 +1,4 @@
-use Rattle.std.proofs.Common.{◌≡◌, [], ◌∷◌, sym, ap, ◌∙◌, subst, arith}
+use Rattle.std.proofs.Common.{sym, subst, arith}
 use Rattle.cr_board.specs.Jobs.{IsOpening, opening_from}
 use Rattle.cr_board.proofs.Openings.{one_job_opens}
 use Rattle.cr_board.proofs.tests.hunter.board_of_one.Goals as goal

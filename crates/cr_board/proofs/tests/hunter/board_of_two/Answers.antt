@@ -1,4 +1,4 @@
-use Rattle.std.proofs.Common.{◌≡◌, [], ◌∷◌, sym, ap, ◌∙◌, subst}
+use Rattle.std.proofs.Common.{sym, subst}
 use Rattle.cr_board.specs.Jobs.{IsOpening, opening_from}
 use Rattle.cr_board.proofs.Hunts.{both_open}
 use Rattle.cr_board.proofs.tests.hunter.board_of_two.Goals as goal

@@ -1,4 +1,4 @@
-use Rattle.std.proofs.Common.{◌≡◌, ◌∙◌, subst}
+use Rattle.std.proofs.Common.{subst}
 use Rattle.cr_model.specs.Sound.{IsSound}
 use Rattle.cr_board.proofs.Hunts.{both_hunted, both_of}
 use Rattle.cr_board.proofs.tests.hunter.both_hunted.Goals as goal

@@ -1,4 +1,4 @@
-use Rattle.std.proofs.Common.{◌≤◌, length, arith}
+use Rattle.std.proofs.Common.{arith}
 use Rattle.cr_model.specs.Nodes.{IsValid}
 use Rattle.cr_board.proofs.Hunts.{all_more, all_taken}
 use Rattle.cr_board.proofs.tests.hunter.check_nodes.Goals as goal

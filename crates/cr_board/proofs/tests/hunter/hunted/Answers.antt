@@ -1,4 +1,4 @@
-use Rattle.std.proofs.Common.{◌≡◌, [], ◌∷◌, ◌∙◌, subst}
+use Rattle.std.proofs.Common.{[], ◌∷◌, ◌∙◌, subst}
 use Rattle.cr_model.specs.Sound.{IsSound}
 use Rattle.cr_board.proofs.Hunts.{hunted, done_of}
 use Rattle.cr_board.proofs.tests.hunter.hunted.Goals as goal
