@@ -1,9 +1,10 @@
 //! A walk that goes to live children, back, and to a given node.
 
-ghost use Rattle.std.specs.Prelude.{◌≡◌, ◌<◌, ◌≤◌, ◌-◌, ℕ, List, [], length, take, MatchBool, IfNone, IfSome};
+ghost use Rattle.std.specs.Prelude.{◌≡◌, ◌<◌, ◌≤◌, ◌-◌, ℕ, List, [], length, take, MatchBool, IfNone, IfSome, false};
 ghost use Rattle.cr_model.specs.Nodes.{IsValid};
 ghost use Rattle.cr_model.specs.Sizes.{most_rows, child};
 ghost use Rattle.cr_model.specs.Sound.{IsSound};
+ghost use Rattle.cr_prune.specs.Pruners.{dies_unrung};
 ghost use Rattle.cr_prune.specs.Walks.{walk_from};
 ghost use Rattle.cr_explore.specs.Searches.{IsReady};
 ghost use Rattle.cr_explore.specs.Stacks.{first_live, is_live};
@@ -42,11 +43,21 @@ fn goes_live(walk: &mut Walk, pruner: &Pruner, step: u8) -> bool
         return false;
     }
     walk.go(step);
-    if !pruner.dies_rung(walk) {
+    if lives(walk, pruner) {
         return true;
     }
     walk.back();
     false
+}
+
+// Whether the node, which did not die unrung, is not dead.
+fn lives(walk: &Walk, pruner: &Pruner) -> bool
+    requires same { walk.now.problem ≡ pruner.now.problem }
+    requires some { 0 < length walk.now.node }
+    requires unrung { dies_unrung walk.now.problem most_rows walk.now.node ≡ false }
+    ensures { result ≡ is_live walk.now.problem most_rows walk.now.node }
+{
+    !pruner.dies_rung(walk)
 }
 
 /// Goes back, and gives the last step.
