@@ -25,3 +25,5 @@ pub mod NotationTexts
 pub mod Keys
 pub mod Files
 pub mod ProblemFiles
+pub mod Checkpoints
+pub mod Inputs

@@ -1,6 +1,7 @@
 //! Laws of the definitions, by topic. Each is the contract of a function that does nothing.
 
 mod books;
+mod checkpoints;
 mod dead;
 mod decided;
 mod examples;
@@ -13,6 +14,7 @@ mod summaries;
 mod touches;
 
 pub use books::{book_is_unique, fresh_problem_covers_its_kept, the_book_exists};
+pub use checkpoints::checkpoints_by_example;
 pub use dead::{
     a_node_is_dead_for_its_first_reason, nodes_die_above_a_limit, nodes_die_at_the_edges,
     nodes_die_below_a_limit, nodes_that_turn_back_die, nothing_is_kept_below_a_dead_node,
