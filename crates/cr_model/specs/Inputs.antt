@@ -1,5 +1,5 @@
 -- Inputs of a search, which are problem files and checkpoints, and which of them cover the same.
-use Rattle.std.specs.Prelude.{◌≡◌, ℕ, ◌⊎◌, ◌↔◌, ⊥, List, [], ◌∷◌}
+use Rattle.std.specs.Prelude.{◌≡◌, ℕ, ◌⊎◌, ◌↔◌, List, [], ◌∷◌}
 use Rattle.cr_model.specs.Problems.{ProblemParts}
 use Rattle.cr_model.specs.Nodes.{Covers}
 use Rattle.cr_model.specs.ProblemFiles.{ProblemFile}
