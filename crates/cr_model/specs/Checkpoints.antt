@@ -1,5 +1,5 @@
 -- Checkpoints: the text of what a search has found and what is left of it, in its two versions.
-use Rattle.std.specs.Prelude.{◌≡◌, ℕ, ◌+◌, ◌<◌, ◌⊎◌, true, cond, nat_eq, List, [], ◌∷◌, ◌++◌, length, drop, map, flat_map, codes, decimal, All}
+use Rattle.std.specs.Prelude.{◌≡◌, ℕ, ◌+◌, ◌<◌, ◌⊎◌, true, cond, nat_eq, List, [], ◌∷◌, ◌++◌, length, drop, flat_map, codes, decimal, All}
 use Rattle.std.specs.List.{starts_with}
 use Rattle.std.specs.List.Sorted.{IsStrictlySortedBy}
 use Rattle.cr_model.specs.Problems.{ProblemParts}

@@ -14,7 +14,7 @@ mod summaries;
 mod touches;
 
 pub use books::{book_is_unique, fresh_problem_covers_its_kept, the_book_exists};
-pub use checkpoints::checkpoints_by_example;
+pub use checkpoints::{a_problem_file_is_an_input, checkpoints_by_example};
 pub use dead::{
     a_node_is_dead_for_its_first_reason, nodes_die_above_a_limit, nodes_die_at_the_edges,
     nodes_die_below_a_limit, nodes_that_turn_back_die, nothing_is_kept_below_a_dead_node,

@@ -1,8 +1,11 @@
 //! The checkpoint's text.
 
 ghost use Rattle.std.specs.Prelude.{◌≡◌, ℕ, List, [], ◌∷◌, map, codes};
+ghost use Rattle.cr_model.specs.Problems.{ProblemParts};
+ghost use Rattle.cr_model.specs.ProblemFiles.{ProblemFile};
 ghost use Rattle.cr_model.specs.Examples.{doubles};
-ghost use Rattle.cr_model.specs.Checkpoints.{steps_shared, node_line, last_node, checkpoint_text, checkpoint_text_1};
+ghost use Rattle.cr_model.specs.Checkpoints.{steps_shared, node_line, last_node, checkpoint_text, checkpoint_text_1, IsCheckpoint};
+ghost use Rattle.cr_model.specs.Inputs.{Input, SameCover};
 
 /// Checkpoints of Plain Bob Doubles, with a text of seven bytes in place of its file: nothing found and the root open;
 /// a touch found and two jobs, in both versions; and nothing found and nothing open. A node shares steps with the node
@@ -20,4 +23,11 @@ pub fn checkpoints_by_example()
         ≡ 0 ∷ 0 ∷ 1 ∷ 2 ∷ 2 ∷ 1 ∷ [] }
     ensures all_shared { map (node_line doubles 2 (0 ∷ 1 ∷ [])) ((0 ∷ 1 ∷ []) ∷ (0 ∷ []) ∷ []) ≡ codes "2 -\n" ∷ codes "1 -\n" ∷ [] }
     ensures last { map (last_node (0 ∷ [])) ([] ∷ ((1 ∷ []) ∷ [] ∷ []) ∷ []) ≡ (0 ∷ []) ∷ [] ∷ [] }
+{}
+
+/// A problem's file is an input of which nothing is found and the root is open, and covers the same as itself.
+pub fn a_problem_file_is_an_input()
+    ensures input { (bytes : List ℕ) (p : ProblemParts) → ProblemFile bytes p → (IsCheckpoint bytes → ⊥)
+        → Input bytes bytes p [] ([] ∷ []) }
+    ensures same { (bytes : List ℕ) (p : ProblemParts) → ProblemFile bytes p → (IsCheckpoint bytes → ⊥) → SameCover bytes bytes }
 {}
