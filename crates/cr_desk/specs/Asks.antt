@@ -1,0 +1,34 @@
+-- What a worker that asks at a desk is answered, and what it is to do.
+use Rattle.std.specs.Prelude.{◌≡◌, ◌≢◌, ℕ, Option, Some, None, Result, Ok, Err, ⊤}
+use Rattle.cr_row.specs.declared.NoMemory.{NoMemory}
+use Rattle.cr_model.specs.Problems.{ProblemParts}
+use Rattle.cr_board.specs.Jobs.{TicketParts}
+use Rattle.cr_board.specs.Boards.{BoardParts}
+use Rattle.cr_board.specs.Choices.{next_answer}
+use Rattle.cr_board.specs.Moves.{after_next}
+use Rattle.cr_board.specs.declared.taken.Taken.{Taken}
+use Rattle.cr_board.specs.declared.taken.Taken.TheVariants as taken
+use Rattle.cr_desk.specs.declared.duty.Duty.{Duty}
+use Rattle.cr_desk.specs.declared.duty.Duty.TheVariants as duty
+
+-- a worker's asking with a problem, by its answer, and the board after it: nothing comes of it where the board is of
+-- another problem, or where no memory is left
+abbrev pub Asks : BoardParts → ProblemParts → ℕ → Result (Option Taken) NoMemory → BoardParts → Type 0
+Asks b p worker (Ok None) after = (b.opening.problem ≢ p) × (after ≡ b)
+Asks b p worker (Ok (Some answer)) after = (b.opening.problem ≡ p) × (answer ≡ next_answer b worker) × (after ≡ after_next b worker)
+Asks b p worker (Err e) after = after ≡ b
+
+-- what holds of the job of an answer
+abbrev pub IfJob : Taken → (TicketParts → Type 0) → Type 0
+IfJob taken.Stranger P = ⊤
+IfJob (taken.Holding number) P = ⊤
+IfJob taken.Spent P = ⊤
+IfJob (taken.Job ticket) P = P ticket
+IfJob (taken.Wait worker) P = ⊤
+IfJob taken.Empty P = ⊤
+
+-- what holds of the job that is to be explored
+abbrev pub IfExplore : Duty → (TicketParts → Type 0) → Type 0
+IfExplore (duty.Explore ticket) P = P ticket
+IfExplore duty.Resign P = ⊤
+IfExplore duty.Leave P = ⊤

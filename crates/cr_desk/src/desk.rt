@@ -1,0 +1,170 @@
+//! The desk.
+
+ghost use Rattle.std.specs.Prelude.{◌≡◌, ◌≤◌, [], length, map, sum_by, vec_len, All, IfOk, IfSome};
+ghost use Rattle.std.specs.List.{range_with_len};
+ghost use Rattle.cr_node.specs.Work.{IsJob};
+ghost use Rattle.cr_board.specs.Partitions.{IsKept};
+ghost use Rattle.cr_desk.specs.Asks.{IfExplore};
+
+use crate::duty::Duty;
+use crate::locked::Locked;
+use crate::seat::{Seat, merged, seats_of};
+use cr_board::{Board, Handed, Taken, Ticket};
+use cr_node::Explorer;
+use cr_row::NoMemory;
+use std::alloc::Global;
+use std::sync::ledger::{Blank, Ledger};
+use std::sync::{Condvar, Mutex, Wait};
+
+/// A board under a lock, for workers that explore its jobs side by side, and a signal for those that wait for a job.
+///
+/// Whenever the lock is free the board keeps the facts of its type, and its journal has as many entries as the shares of
+/// all seats count together.
+#[derive(Drop)]
+pub struct Desk<L: Ledger> {
+    locked: Mutex<Locked<L>>,
+    changed: Condvar,
+}
+
+impl<L: Ledger> Desk<L> {
+    /// A desk over a board with an empty journal, and a seat for each of its workers, in order, with one part of the
+    /// ledger that the blank opens. Err where no memory is left.
+    pub fn open(
+        alloc: Global,
+        board: Board,
+        blank: Blank,
+    ) -> Result<(Desk<L>, Vec<Seat<L>>), NoMemory>
+        requires empty { board.journal ≡ [] }
+        requires name { blank.name ≡ L.name }
+        requires parts { blank.parts ≡ L.parts }
+        requires workers { blank.parts ≡ board.opening.workers }
+        ensures count { IfOk result (λ opened. vec_len opened.1 ≡ board.opening.workers) }
+        ensures workers { IfOk result (λ opened. map (λ s. s.worker) opened.1.items ≡ range_with_len 0 board.opening.workers) }
+        ensures parts { IfOk result (λ opened. All (λ s. s.share.parts ≡ 1) opened.1.items) }
+        ensures nothing { IfOk result (λ opened. All (λ s. s.share.amount ≡ 0) opened.1.items) }
+    {
+        let workers = board.opening().workers();
+        let (book, mut all) = blank.open::<L>();
+        let nothing = all.empty();
+        let seats = seats_of(alloc, workers, all)?;
+        let locked = Locked {
+            board,
+            book,
+            nothing,
+        };
+        let desk = Desk {
+            locked: Mutex::new(locked),
+            changed: Condvar::new(),
+        };
+        Ok((desk, seats))
+    }
+
+    /// Works at a seat until there is nothing to do any more: takes jobs, explores them outside the lock and hands them in,
+    /// and waits where no lane has a job while another worker holds one.
+    ///
+    /// It returns where the board is of another problem than the explorer's, and then it has taken no job; where no job is
+    /// left, the budget is spent, or the worker is none of the board's or resigned. Where it finds no memory, or the board
+    /// refuses its work, it resigns, so that its job goes back.
+    pub fn work<R: Wait, E: Explorer>(
+        &self,
+        rt: &R,
+        alloc: Global,
+        explorer: &E,
+        seat: &mut Seat<L>,
+    )
+        ensures worker { seat.new.worker ≡ seat.old.worker }
+        ensures parts { seat.new.share.parts ≡ seat.old.share.parts }
+        ensures amount { seat.old.share.amount ≤ seat.new.share.amount }
+    {
+        for _ in rt.forever() {
+            let goes_on = match self.ask(rt, alloc, explorer, seat) {
+                Duty::Explore(ticket) => self.explore(rt, alloc, explorer, seat, &ticket),
+                Duty::Resign => false,
+                Duty::Leave => break,
+            };
+            if !goes_on {
+                self.locked.lock(rt).resign(seat.worker, &mut seat.share);
+                break;
+            }
+        }
+        // Whoever waits, waits for one that holds a job. That one asks again, until it leaves: it may have held the last
+        // job, or leave one behind.
+        self.changed.notify_all();
+    }
+
+    /// Gives the board back, with the number of entries that the shares of all seats count together, which are those of
+    /// its journal. It takes no memory.
+    pub fn close(self, seats: Vec<Seat<L>>) -> (Board, u64)
+        requires { sum_by (λ s. s.share.parts) seats.items ≡ L.parts }
+        ensures number { result.1 ≡ sum_by (λ s. s.share.amount) seats.items }
+        ensures entries { length result.0.journal ≡ result.1 }
+        ensures kept { IsKept result.0 }
+    {
+        let Desk { locked, changed: _ } = self;
+        let Locked {
+            board,
+            mut book,
+            nothing,
+        } = locked.into_inner();
+        let mut all = merged(nothing, seats);
+        book.audit(&mut all);
+        let entries = board.journal().len() as u64;
+        (board, entries)
+    }
+
+    // Asks for a worker's next job until the answer is not to wait.
+    fn ask<R: Wait, E: Explorer>(
+        &self,
+        rt: &R,
+        alloc: Global,
+        explorer: &E,
+        seat: &mut Seat<L>,
+    ) -> Duty
+        ensures job { IfExplore result (λ ticket. IsJob (E.explores explorer.now) ticket.nodes) }
+        ensures worker { seat.new.worker ≡ seat.old.worker }
+        ensures parts { seat.new.share.parts ≡ seat.old.share.parts }
+        ensures amount { seat.old.share.amount ≤ seat.new.share.amount }
+    {
+        let mut locked = self.locked.lock(rt);
+        for _ in rt.forever() {
+            match locked.ask(alloc, explorer.problem(), seat.worker, &mut seat.share) {
+                Ok(Some(Taken::Job(ticket))) => return Duty::Explore(ticket),
+                Ok(Some(Taken::Wait(_))) => locked = self.changed.wait(rt, locked),
+                Ok(Some(Taken::Holding(_))) | Err(NoMemory) => return Duty::Resign,
+                Ok(None | Some(Taken::Stranger | Taken::Spent | Taken::Empty)) => {
+                    return Duty::Leave;
+                }
+            }
+        }
+        unreachable!()
+    }
+
+    // Explores a job that a worker holds, and hands it in. False where it finds no memory or the board refuses it.
+    fn explore<R: Wait, E: Explorer>(
+        &self,
+        rt: &R,
+        alloc: Global,
+        explorer: &E,
+        seat: &mut Seat<L>,
+        ticket: &Ticket,
+    ) -> bool
+        requires { IsJob (E.explores explorer.now) ticket.now.nodes }
+        ensures worker { seat.new.worker ≡ seat.old.worker }
+        ensures parts { seat.new.share.parts ≡ seat.old.share.parts }
+        ensures amount { seat.old.share.amount ≤ seat.new.share.amount }
+    {
+        let Ok(done) = explorer.explore(alloc, &ticket.nodes, ticket.grant) else {
+            return false;
+        };
+        let opens_two = done.rest().len() > 1;
+        let mut locked = self.locked.lock(rt);
+        let handed = locked.hand_in(seat.worker, ticket.number, done, &mut seat.share);
+        drop(locked);
+        let taken = matches!(handed, Handed::In);
+        // Of two jobs this worker takes one, and one that waits the other.
+        if taken && opens_two {
+            self.changed.notify_one();
+        }
+        taken
+    }
+}

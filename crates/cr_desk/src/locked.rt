@@ -1,0 +1,107 @@
+//! What the lock keeps.
+
+ghost use Rattle.std.specs.Prelude.{◌≡◌, ◌+◌, ◌<◌, cond, nat_lt, length, IfOk, IfSome, OnOk, OnErr};
+ghost use Rattle.cr_node.specs.Work.{IsJob};
+ghost use Rattle.cr_board.specs.Choices.{next_answer};
+ghost use Rattle.cr_board.specs.Moves.{HandsIn, after_next, after_resigning};
+ghost use Rattle.cr_desk.specs.Asks.{Asks, IfJob};
+
+use cr_board::laws::journals_grow_by_their_entries;
+use cr_board::{Board, Handed, Taken};
+use cr_model::Problem;
+use cr_node::Done;
+use cr_row::NoMemory;
+use std::alloc::Global;
+use std::sync::ledger::{Book, Ledger, Share};
+
+/// A board, and the book of a ledger that counts the entries of its journal. Beside it stands a share without parts.
+#[derive(Drop)]
+pub struct Locked<L: Ledger> {
+    pub board: Board,
+    pub book: Book<L>,
+    pub nothing: Share<L>,
+    pub ghost counted: { length board.journal ≡ book.total },
+    pub ghost none: { nothing.parts ≡ 0 },
+    pub ghost empty: { nothing.amount ≡ 0 },
+}
+
+impl<L: Ledger> Locked<L> {
+    /// Asks for a worker's next job, where the board is of this problem. None where it is of another.
+    pub fn ask(
+        &mut self,
+        alloc: Global,
+        problem: &Problem,
+        worker: u32,
+        mine: &mut Share<L>,
+    ) -> Result<Option<Taken>, NoMemory>
+        requires { 0 < mine.old.parts }
+        ensures asks { Asks self.old.board problem.now worker result self.new.board }
+        ensures job { IfOk result (λ answer. IfSome answer (λ taken. IfJob taken (λ ticket. IsJob problem.now ticket.nodes))) }
+        ensures parts { mine.new.parts ≡ mine.old.parts }
+        ensures counted { mine.new.amount + length self.old.board.journal ≡ mine.old.amount + length self.new.board.journal }
+    {
+        if !self.board.opening().problem().same(problem) {
+            return Ok(None);
+        }
+        Ok(Some(self.next_job(alloc, worker, mine)?))
+    }
+
+    // A worker's next job, whatever the board's problem.
+    fn next_job(
+        &mut self,
+        alloc: Global,
+        worker: u32,
+        mine: &mut Share<L>,
+    ) -> Result<Taken, NoMemory>
+        requires { 0 < mine.old.parts }
+        ensures answer { IfOk result (λ taken. taken ≡ next_answer self.old.board worker) }
+        ensures board { OnOk result (self.new.board ≡ after_next self.old.board worker) }
+        ensures err { OnErr result (self.new.board ≡ self.old.board) }
+        ensures job { IfOk result (λ taken. IfJob taken (λ ticket. IsJob self.old.board.opening.problem ticket.nodes)) }
+        ensures parts { mine.new.parts ≡ mine.old.parts }
+        ensures counted { mine.new.amount + length self.old.board.journal ≡ mine.old.amount + length self.new.board.journal }
+    {
+        journals_grow_by_their_entries();
+        // The facts of the board before and after show that a ticket has a job.
+        let _ = self.board.journal();
+        let taken = self.board.next_job(alloc, worker)?;
+        let _ = self.board.journal();
+        if let Taken::Job(_) = &taken {
+            self.book.add(mine, 1);
+        }
+        Ok(taken)
+    }
+
+    /// Hands in finished work on the job of a number that a worker holds.
+    pub fn hand_in(&mut self, worker: u32, number: u64, done: Done, mine: &mut Share<L>) -> Handed
+        requires { 0 < mine.old.parts }
+        ensures handed { HandsIn self.old.board worker number done result self.new.board }
+        ensures parts { mine.new.parts ≡ mine.old.parts }
+        ensures counted { mine.new.amount + length self.old.board.journal ≡ mine.old.amount + length self.new.board.journal }
+    {
+        journals_grow_by_their_entries();
+        let handed = self.board.hand_in(worker, number, done);
+        if let Handed::In = &handed {
+            self.book.add(mine, 1);
+        }
+        handed
+    }
+
+    /// A worker resigns, if there is one of this number.
+    pub fn resign(&mut self, worker: u32, mine: &mut Share<L>)
+        requires { 0 < mine.old.parts }
+        ensures board { self.new.board ≡ cond (nat_lt worker self.old.board.opening.workers) (after_resigning self.old.board worker) self.old.board }
+        ensures parts { mine.new.parts ≡ mine.old.parts }
+        ensures counted { mine.new.amount + length self.old.board.journal ≡ mine.old.amount + length self.new.board.journal }
+    {
+        journals_grow_by_their_entries();
+        if worker >= self.board.opening().workers() {
+            return;
+        }
+        let holds = self.board.held(worker).is_some();
+        self.board.resign(worker);
+        if holds {
+            self.book.add(mine, 1);
+        }
+    }
+}

@@ -1,0 +1,3 @@
+mod hunter;
+mod together;
+mod working;

@@ -1,0 +1,13 @@
+//! Running a board to its end.
+#![tactic(auto)]
+
+mod alone;
+#[cfg(test)]
+mod hunter;
+pub mod laws;
+#[cfg(test)]
+mod tests;
+mod workers;
+
+pub use alone::run_alone;
+pub use workers::run_workers;
