@@ -1,0 +1,6 @@
+use Rattle.cr_store.proofs.ShapeBodies.{no_number_after}
+use Rattle.cr_store.proofs.shape_lines.named_number.Goals as goal
+
+pub returns-clause-none : goal.returns-clause-none
+returns-clause-none c =
+    no_number_after c.args.line.now c.args.word.now c.in_ok-digits.digits.now c.number_of.result c.in_ok-digits.ensures.some c.number_of.ensures.none

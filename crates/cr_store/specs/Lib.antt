@@ -1,0 +1,11 @@
+pub mod Shapes
+pub mod ShapeFaults
+pub mod ShapeReads
+pub mod Lines
+pub mod Reading
+pub mod Faults
+pub mod Written
+pub mod Progress
+pub mod Chains
+pub mod ShapeStages
+pub mod ShapeSteps

@@ -1,0 +1,132 @@
+//! Found touches and nodes, read and checked.
+
+ghost use Rattle.std.specs.Prelude.{◌≡◌, ◌+◌, ◌^◌, ◌<◌, length, All, MatchResult};
+ghost use Rattle.cr_model.specs.Callings.{HasSteps};
+ghost use Rattle.cr_store.specs.ShapeReads.{shape_parts};
+ghost use Rattle.cr_store.specs.Lines.{HasItems, node_lines_of};
+ghost use Rattle.cr_store.specs.Reading.{IsRead};
+ghost use Rattle.cr_store.specs.Faults.{OrNoMemory, IsUnread, AnswersFor, AnswersForAll, lengths_check, kept_check, order_check, overlap_check, item_checks};
+
+use crate::checking::{first_long, first_out_of_order, first_unkept};
+use crate::fault::CheckFault;
+use crate::lines::line_of;
+use crate::reading::{read_nodes, read_touches};
+use crate::shape::Shape;
+use cr_book::laws::callings_differ_in_their_texts;
+use cr_model::{Calling, Problem};
+use cr_node::{Node, independent};
+use std::alloc::Global;
+
+/// Found touches and nodes.
+#[derive(Drop)]
+pub struct Items {
+    pub found: Vec<Calling>,
+    pub nodes: Vec<Node>,
+}
+
+/// The found touches and nodes of all lines.
+pub fn read_items(alloc: Global, problem: &Problem, shape: &Shape) -> Result<Items, CheckFault>
+    requires { IsRead shape.now }
+    ensures { MatchResult result (λ items. HasItems problem.now (shape_parts shape.now) items.found.items items.nodes.items)
+        (OrNoMemory (IsUnread problem.now (shape_parts shape.now))) }
+{
+    callings_differ_in_their_texts();
+    let _ = problem.query();
+    let mut found = Vec::with_capacity(alloc, shape.found.len())?;
+    if !read_touches(alloc, problem, &shape.found, &mut found)? {
+        return Err(CheckFault::Calling(line_of(shape, found.len())));
+    }
+    let mut nodes = Vec::new(alloc);
+    if !read_nodes(alloc, problem, shape, &mut nodes)? {
+        let item = found.len() + nodes.len();
+        return Err(CheckFault::Calling(line_of(shape, item)));
+    }
+    Ok(Items { found, nodes })
+}
+
+/// Checks the found touches and nodes of all lines.
+pub fn check_items(
+    alloc: Global,
+    problem: &Problem,
+    shape: &Shape,
+    items: &Items,
+) -> Result<(), CheckFault>
+    requires read { IsRead shape.now }
+    requires items { HasItems problem.now (shape_parts shape.now) items.now.found.items items.now.nodes.items }
+    ensures { AnswersForAll (item_checks problem.now (shape_parts shape.now) items.now.found.items items.now.nodes.items) result }
+{
+    check_lengths(alloc, problem, shape, items)?;
+    check_kept(alloc, problem, shape, items)?;
+    check_order(problem, shape, items)?;
+    check_overlaps(alloc, problem, shape, items)
+}
+
+// No node is longer than a part may be.
+fn check_lengths(
+    alloc: Global,
+    problem: &Problem,
+    shape: &Shape,
+    items: &Items,
+) -> Result<(), CheckFault>
+    requires read { IsRead shape.now }
+    requires items { HasItems problem.now (shape_parts shape.now) items.now.found.items items.now.nodes.items }
+    ensures { AnswersFor (lengths_check problem.now (shape_parts shape.now) items.now.found.items items.now.nodes.items) result }
+{
+    match first_long(alloc, problem, &items.nodes)? {
+        Some(node) => {
+            let line = line_of(shape, items.found.len() + node);
+            Err(CheckFault::NodeLong(line))
+        }
+        None => Ok(()),
+    }
+}
+
+// Each found touch is kept.
+fn check_kept(
+    alloc: Global,
+    problem: &Problem,
+    shape: &Shape,
+    items: &Items,
+) -> Result<(), CheckFault>
+    requires read { IsRead shape.now }
+    requires items { HasItems problem.now (shape_parts shape.now) items.now.found.items items.now.nodes.items }
+    ensures { AnswersFor (kept_check problem.now (shape_parts shape.now) items.now.found.items) result }
+{
+    match first_unkept(alloc, problem, &items.found)? {
+        Some(touch) => Err(CheckFault::NotKept(line_of(shape, touch))),
+        None => Ok(()),
+    }
+}
+
+// Each found touch comes after the one before it.
+fn check_order(problem: &Problem, shape: &Shape, items: &Items) -> Result<(), CheckFault>
+    requires read { IsRead shape.now }
+    requires items { HasItems problem.now (shape_parts shape.now) items.now.found.items items.now.nodes.items }
+    ensures { AnswersFor (order_check problem.now (shape_parts shape.now) items.now.found.items) result }
+{
+    match first_out_of_order(problem, &items.found) {
+        Some(touch) => Err(CheckFault::FoundOrder(line_of(shape, touch))),
+        None => Ok(()),
+    }
+}
+
+// No two lines overlap.
+fn check_overlaps(
+    alloc: Global,
+    problem: &Problem,
+    shape: &Shape,
+    items: &Items,
+) -> Result<(), CheckFault>
+    requires read { IsRead shape.now }
+    requires items { HasItems problem.now (shape_parts shape.now) items.now.found.items items.now.nodes.items }
+    ensures { AnswersFor (overlap_check problem.now (shape_parts shape.now) items.now.found.items items.now.nodes.items) result }
+{
+    match independent(alloc, problem, &items.found, &items.nodes)? {
+        Some((earlier, later)) => {
+            let first = line_of(shape, earlier as usize);
+            let second = line_of(shape, later as usize);
+            Err(CheckFault::Overlap(first, second))
+        }
+        None => Ok(()),
+    }
+}

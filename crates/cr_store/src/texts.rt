@@ -1,0 +1,167 @@
+//! The lines of a checkpoint.
+
+ghost use Rattle.std.specs.Prelude.{◌≡◌, ◌≤◌, [], ◌++◌, length, map, All, IfOk, decimal, codes, flat_map};
+ghost use Rattle.cr_model.specs.Callings.{HasSteps};
+ghost use Rattle.cr_model.specs.Books.{book_line};
+ghost use Rattle.cr_model.specs.Checkpoints.{number_line, steps_text, steps_shared, node_line, node_lines, job_lines, last_node, nodes_of_jobs};
+ghost use Rattle.cr_store.specs.Written.{lists};
+
+use cr_book::calling_text;
+use cr_model::{Calling, Problem};
+use cr_node::Node;
+use cr_row::NoMemory;
+use itoa::Buffer;
+use std::alloc::Global;
+
+/// Appends a number in decimal digits.
+pub fn write_number(text: &mut Vec<u8>, number: u64) -> Result<(), NoMemory>
+    ensures { IfOk result (λ _. text.new.items ≡ text.old.items ++ decimal number) }
+{
+    text.extend_from_slice(Buffer::new().format(number).as_bytes())?;
+    Ok(())
+}
+
+/// Appends a line of a name and a number.
+pub fn write_count(text: &mut Vec<u8>, name: &[u8], number: u64) -> Result<(), NoMemory>
+    ensures { IfOk result (λ _. text.new.items ≡ text.old.items ++ number_line name.now number) }
+{
+    text.extend_from_slice(name)?;
+    text.push(b' ')?;
+    write_number(text, number)?;
+    text.push(b'\n')?;
+    Ok(())
+}
+
+/// Appends steps as a calling, or `-` where there are none.
+pub fn write_steps(
+    alloc: Global,
+    text: &mut Vec<u8>,
+    problem: &Problem,
+    steps: &[u8],
+) -> Result<(), NoMemory>
+    requires { HasSteps problem.now steps.now }
+    ensures { IfOk result (λ _. text.new.items ≡ text.old.items ++ steps_text problem.now steps.now) }
+{
+    if steps.is_empty() {
+        text.push(b'-')?;
+        return Ok(());
+    }
+    let calling = calling_text(alloc, problem, steps)?;
+    text.extend_from_slice(&calling)?;
+    Ok(())
+}
+
+/// Appends a found touch as a line of the book: its length, a space and its calling.
+pub fn write_touch(
+    alloc: Global,
+    text: &mut Vec<u8>,
+    problem: &Problem,
+    touch: &Calling,
+) -> Result<(), NoMemory>
+    requires { HasSteps problem.now touch.now }
+    ensures { IfOk result (λ _. text.new.items ≡ text.old.items ++ book_line problem.now touch.now) }
+{
+    write_number(text, problem.length_of(touch))?;
+    text.push(b' ')?;
+    let calling = calling_text(alloc, problem, touch.steps())?;
+    text.extend_from_slice(&calling)?;
+    text.push(b'\n')?;
+    Ok(())
+}
+
+/// Appends found touches as lines of the book.
+pub fn write_found(
+    alloc: Global,
+    text: &mut Vec<u8>,
+    problem: &Problem,
+    found: &[Calling],
+) -> Result<(), NoMemory>
+    requires { All (HasSteps problem.now) found.now }
+    ensures { IfOk result (λ _. text.new.items ≡ text.old.items ++ flat_map (book_line problem.now) found.now) }
+{
+    for touch in found {
+        write_touch(alloc, text, problem, touch)?;
+    }
+    Ok(())
+}
+
+/// With how many steps both begin alike.
+pub fn shared_steps(before: &[u8], node: &[u8]) -> usize
+    ensures is { result ≡ steps_shared before.now node.now }
+    ensures few { result ≤ length node.now }
+{
+    let most = before.len().min(node.len());
+    for index in 0..most {
+        if before[index] != node[index] {
+            return index;
+        }
+    }
+    most
+}
+
+/// Appends the line of a node after another: how many steps it shares with that one, and the others.
+pub fn write_node(
+    alloc: Global,
+    text: &mut Vec<u8>,
+    problem: &Problem,
+    before: &[u8],
+    node: &[u8],
+) -> Result<(), NoMemory>
+    requires { HasSteps problem.now node.now }
+    ensures { IfOk result (λ _. text.new.items ≡ text.old.items ++ node_line problem.now 2 before.now node.now) }
+{
+    let shared = shared_steps(before, node);
+    write_number(text, shared as u64)?;
+    text.push(b' ')?;
+    write_steps(alloc, text, problem, &node[shared..])?;
+    text.push(b'\n')?;
+    Ok(())
+}
+
+/// Appends a job that comes after a node: its number of nodes, and their lines.
+pub fn write_job(
+    alloc: Global,
+    text: &mut Vec<u8>,
+    problem: &Problem,
+    before: &[u8],
+    job: &[Node],
+) -> Result<(), NoMemory>
+    requires { All (HasSteps problem.now) job.now }
+    ensures { IfOk result (λ _. text.new.items ≡ text.old.items ++ number_line (codes "job") (length job.now) ++ node_lines problem.now 2 before.now job.now) }
+{
+    write_count(text, b"job", job.len() as u64)?;
+    let mut last = before;
+    for node in job {
+        write_node(alloc, text, problem, last, node.steps())?;
+        last = node.steps();
+    }
+    Ok(())
+}
+
+/// The last of some nodes, or the one before them where there are none.
+pub fn last_of<'a>(before: &'a [u8], job: &'a [Node]) -> &'a [u8]
+    ensures { result.now ≡ last_node before.now job.now }
+{
+    match job.last() {
+        Some(node) => node.steps(),
+        None => before,
+    }
+}
+
+/// Appends jobs, of which the first comes at the beginning.
+pub fn write_jobs(
+    alloc: Global,
+    text: &mut Vec<u8>,
+    problem: &Problem,
+    jobs: &[Vec<Node>],
+) -> Result<(), NoMemory>
+    requires { All (HasSteps problem.now) (nodes_of_jobs (lists jobs.now)) }
+    ensures { IfOk result (λ _. text.new.items ≡ text.old.items ++ job_lines problem.now 2 [] (lists jobs.now)) }
+{
+    let mut last: &[u8] = &[];
+    for job in jobs {
+        write_job(alloc, text, problem, last, job)?;
+        last = last_of(last, job);
+    }
+    Ok(())
+}
