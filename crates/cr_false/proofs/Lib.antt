@@ -1,0 +1,5 @@
+pub mod Adding
+pub mod Repeated
+pub mod Tables
+pub mod Shared
+pub mod Numbers
