@@ -6,12 +6,25 @@ ghost use Rattle.std.specs.Process.{exit_status};
 ghost use Rattle.cr_top.specs.Codes.{code_of};
 
 use cr_io::{StdSink, StdSource};
-use cr_top::{Status, ringsearch, write_note};
+use cr_top::{OpenGate, Status, ringsearch, write_note};
+use cr_words::WordsFault;
 use std::process::ExitCode;
 use std::{env, io};
 
+// Does what the words wish for. Words that are no UTF-8 are a line that is not taken.
 fn main(rt: HostRuntime) -> ExitCode {
-    ended(&run(&rt))
+    let mut notes = StdSink::new(rt.stderr());
+    match words_of(&rt) {
+        Ok(words) => {
+            let mut source = StdSource::new(rt.stdin());
+            let mut sink = StdSink::new(rt.stdout());
+            ended(&ringsearch(&rt, &words, &mut source, &mut sink, &mut notes, &OpenGate))
+        }
+        Err(status) => {
+            write_note(&mut notes, &status);
+            ended(&status)
+        }
+    }
 }
 
 // The exit status of the program is the number of the status.
@@ -19,22 +32,6 @@ fn ended(status: &Status) -> ExitCode
     ensures { exit_status result ≡ code_of status.now }
 {
     ExitCode::from(status.code())
-}
-
-// Searches what stands on standard input. Words that are no UTF-8 are not accepted.
-fn run(rt: &HostRuntime) -> Status {
-    let mut notes = StdSink::new(rt.stderr());
-    match words_of(rt) {
-        Ok(words) => {
-            let mut source = StdSource::new(rt.stdin());
-            let mut sink = StdSink::new(rt.stdout());
-            ringsearch(rt, &words, &mut source, &mut sink, &mut notes)
-        }
-        Err(status) => {
-            write_note(&mut notes, &status);
-            status
-        }
-    }
 }
 
 // The words after the program's name.
@@ -52,7 +49,7 @@ fn words_of(rt: &HostRuntime) -> Result<Vec<String>, Status> {
         Err(error) => Err(if error.kind() == io::ErrorKind::OutOfMemory {
             Status::NoMemory
         } else {
-            Status::Words
+            Status::Words(WordsFault::Line)
         }),
     }
 }

@@ -1,4 +1,5 @@
--- What a call ends with where no read failed: each input has the answer that it is due, unless memory was wanting.
+-- What a call ends with where no read and no write failed: each input has the answer that it is due, unless memory was
+-- wanting.
 use Rattle.std.proofs.Common.{◌≡◌, ℕ, ◌^◌, ◌<◌, ◌≤◌, ◌⊎◌, List, length, Option, Some, None, refl, sym, ap, ◌∙◌, subst, arith}
 use Rattle.std.proofs.Common.{inl, inr, length-append}
 use Rattle.std.specs.Prelude.{⊤}
@@ -6,11 +7,16 @@ use Rattle.std.specs.Io.KnownBytes.{Consumes}
 use Rattle.cr_io.specs.Causes.{Rose}
 use Rattle.cr_io.specs.Ends.{TookMore}
 use Rattle.cr_model.specs.Problems.{ProblemParts}
+use Rattle.cr_model.specs.Sizes.{most_rows, size_of_all}
 use Rattle.cr_model.specs.declared.file_fault.ProblemFault.{ProblemFault}
-use Rattle.cr_model.specs.ProblemFiles.{ProblemFile, FirstProblemFault}
+use Rattle.cr_model.specs.Sound.{IsSound}
+use Rattle.cr_model.specs.Inputs.{Input}
+use Rattle.cr_store.specs.declared.fault.CheckFault.{CheckFault}
 use Rattle.cr_top.specs.declared.status.Status.{Status}
 use Rattle.cr_top.specs.declared.status.Status.TheVariants as ended
-use Rattle.cr_top.specs.Endings.{IsUnbuilt, IsBuilt, IsBookOf, IsRefused, IsDue, IsInput, WasTold, Ends}
+use Rattle.cr_top.specs.Runs.{KeepsTo}
+use Rattle.cr_top.specs.Texts.{IsBookOf, IsStopOf, IsReached, IsTextOf, IsNoProblem, IsNoCheckpoint}
+use Rattle.cr_top.specs.Endings.{IsDue, WasRead, WasTold, EndsSearch, EndsMake}
 
 -- no more was taken than was left
 taken_of_told : (left now : Option (List ℕ)) (told taken : List ℕ) → left ≡ Some told → Consumes left now taken
@@ -25,127 +31,196 @@ the_input : (left : Option (List ℕ)) (told input : List ℕ) → left ≡ Some
 the_input None told input is was = absurd (cc)
 the_input (Some xs) told input is was = let same : xs ≡ told = cc in sym same ∙ was
 
--- the input is no longer than is read, and a problem's file
-abbrev pub HasBook : List ℕ → Type 0
-HasBook input = (length input ≤ 2 ^ 40) × ((text : List ℕ) × IsBookOf input text)
-
 -- what a status says of an input that was told, where no read failed
-abbrev pub Says : List ℕ → Status → Type 0
-Says input ended.Finished = HasBook input
-Says input ended.WriteFault = HasBook input
-Says input (ended.Problem fault) = (length input ≤ 2 ^ 40) × IsRefused input fault
-Says input ended.Unbuilt = (length input ≤ 2 ^ 40) × IsUnbuilt input
-Says input ended.TooLong = 2 ^ 40 < length input
-Says input ended.NoMemory = ⊤
-Says input ended.Words = ⊥
-Says input ended.ReadFault = ⊥
+abbrev pub Says : Option ℕ → List ℕ → Status → Type 0
+Says turns input ended.Finished = (length input ≤ 2 ^ 40) × ((text : List ℕ) × IsBookOf turns input text)
+Says turns input (ended.Stopped after) = (length input ≤ 2 ^ 40) × ((text : List ℕ) × IsReached turns input text (Some after))
+Says turns input ended.WriteFault = (length input ≤ 2 ^ 40) × ((text : List ℕ) × IsTextOf turns input text)
+Says turns input (ended.Problem fault) = (length input ≤ 2 ^ 40) × IsNoProblem input fault
+Says turns input (ended.Checkpoint fault) = (length input ≤ 2 ^ 40) × IsNoCheckpoint input fault
+Says turns input ended.TooLong = 2 ^ 40 < length input
+Says turns input ended.NoMemory = ⊤
+Says turns input (ended.Words fault) = ⊥
+Says turns input ended.ReadFault = ⊥
 
--- a call whose words are accepted, from a source that told its bytes, with no read that failed
 module _ {S K : Type 0} (took : S → S → List ℕ → Type 0) (left : S → Option (List ℕ)) (s_faults : S → ℕ) (s_old s_new : S)
-    (grew : K → K → List ℕ → Type 0) (k_faults : K → ℕ) (k_old k_new : K)
-    (shows : (taken : List ℕ) → took s_old s_new taken → Consumes (left s_old) (left s_new) taken)
-    (input : List ℕ) (told : left s_old ≡ Some input) (reads : Rose (s_faults s_old) (s_faults s_new) → ⊥) where
-  same : (taken : List ℕ) → IsInput took left s_old s_new taken → taken ≡ input
-  same taken is = sym (the_input (left s_old) input taken told is.told)
+    (grew : K → K → List ℕ → Type 0) (k_faults : K → ℕ) (k_old k_new : K) (turns : Option ℕ) where
+  -- a search from a source that told its bytes, with no read that failed
+  module _ (shows : (taken : List ℕ) → took s_old s_new taken → Consumes (left s_old) (left s_new) taken)
+      (input : List ℕ) (told : left s_old ≡ Some input) (reads : Rose (s_faults s_old) (s_faults s_new) → ⊥) where
+    same : (taken : List ℕ) → WasRead took left s_old s_new taken → taken ≡ input
+    same taken is = sym (the_input (left s_old) input taken told is.told)
 
-  pub says : (status : Status) → (status ≡ ended.Words → ⊥)
-      → Ends took left s_faults s_old s_new grew k_faults k_old k_new status → Says input status
-  says ended.Finished words ends = subst HasBook (same ends.0 ends.2) (ends.2.short, (ends.1, ends.3))
-  says ended.WriteFault words ends = subst HasBook (same ends.0 ends.2) (ends.2.short, (ends.1, ends.3))
-  says (ended.Problem fault) words ends =
-      subst (λ x. (length x ≤ 2 ^ 40) × IsRefused x fault) (same ends.0 ends.1) (ends.1.short, ends.2)
-  says ended.Unbuilt words ends =
-      subst (λ x. (length x ≤ 2 ^ 40) × IsUnbuilt x) (same ends.0 ends.1) (ends.1.short, ends.2)
-  says ended.TooLong words ends =
-      let more : TookMore took s_old s_new (2 ^ 40) = ends.0 in
-      omega (arith, more.2, taken_of_told _ _ input more.0 told (shows more.0 more.1))
-  says ended.NoMemory words ends = tt
-  says ended.Words words ends = absurd (words refl)
-  says ended.ReadFault words ends = absurd (reads ends.1)
+    pub says : (status : Status) → EndsSearch took left s_faults s_old s_new grew k_faults k_old k_new turns status → Says turns input status
+    says ended.Finished ends =
+        subst (λ x. (length x ≤ 2 ^ 40) × ((text : List ℕ) × IsBookOf turns x text)) (same ends.0 ends.2) (ends.2.short, (ends.1, ends.3))
+    says (ended.Stopped after) ends =
+        subst (λ x. (length x ≤ 2 ^ 40) × ((text : List ℕ) × IsReached turns x text (Some after))) (same ends.0 ends.2)
+        (ends.2.short, (ends.1, (ends.3, ends.4)))
+    says ended.WriteFault ends =
+        subst (λ x. (length x ≤ 2 ^ 40) × ((text : List ℕ) × IsTextOf turns x text)) (same ends.0 ends.2) (ends.2.short, (ends.1, ends.3))
+    says (ended.Problem fault) ends =
+        subst (λ x. (length x ≤ 2 ^ 40) × IsNoProblem x fault) (same ends.0 ends.1) (ends.1.short, ends.2)
+    says (ended.Checkpoint fault) ends =
+        subst (λ x. (length x ≤ 2 ^ 40) × IsNoCheckpoint x fault) (same ends.0 ends.1) (ends.1.short, ends.2)
+    says ended.TooLong ends =
+        let more : TookMore took s_old s_new (2 ^ 40) = ends.0 in
+        omega (arith, more.2, taken_of_told _ _ input more.0 told (shows more.0 more.1))
+    says ended.NoMemory ends = tt
+    says (ended.Words fault) ends = absurd ends
+    says ended.ReadFault ends = absurd (reads ends.1)
 
--- where no write failed, a call did not end so
-pub no_write_fault : {S K : Type 0} (took : S → S → List ℕ → Type 0) (left : S → Option (List ℕ)) (s_faults : S → ℕ) (s_old s_new : S)
-    (grew : K → K → List ℕ → Type 0) (k_faults : K → ℕ) (k_old k_new : K)
-    → (Rose (k_faults k_old) (k_faults k_new) → ⊥)
-    → (status : Status) → Ends took left s_faults s_old s_new grew k_faults k_old k_new status → status ≡ ended.WriteFault → ⊥
-no_write_fault took left s_faults s_old s_new grew k_faults k_old k_new writes ended.WriteFault ends is = writes ends.5
-no_write_fault took left s_faults s_old s_new grew k_faults k_old k_new writes ended.Finished ends is = absurd (cc)
-no_write_fault took left s_faults s_old s_new grew k_faults k_old k_new writes ended.Words ends is = absurd (cc)
-no_write_fault took left s_faults s_old s_new grew k_faults k_old k_new writes (ended.Problem fault) ends is = absurd (cc)
-no_write_fault took left s_faults s_old s_new grew k_faults k_old k_new writes ended.ReadFault ends is = absurd (cc)
-no_write_fault took left s_faults s_old s_new grew k_faults k_old k_new writes ended.NoMemory ends is = absurd (cc)
-no_write_fault took left s_faults s_old s_new grew k_faults k_old k_new writes ended.TooLong ends is = absurd (cc)
-no_write_fault took left s_faults s_old s_new grew k_faults k_old k_new writes ended.Unbuilt ends is = absurd (cc)
+  -- where no write failed, a search did not end so
+  pub no_write_fault : (Rose (k_faults k_old) (k_faults k_new) → ⊥) → (status : Status)
+      → EndsSearch took left s_faults s_old s_new grew k_faults k_old k_new turns status → status ≡ ended.WriteFault → ⊥
+  no_write_fault writes ended.WriteFault ends is = writes ends.5
+  no_write_fault writes ended.Finished ends is = absurd (cc)
+  no_write_fault writes (ended.Words fault) ends is = absurd (cc)
+  no_write_fault writes (ended.Stopped after) ends is = absurd (cc)
+  no_write_fault writes (ended.Problem fault) ends is = absurd (cc)
+  no_write_fault writes (ended.Checkpoint fault) ends is = absurd (cc)
+  no_write_fault writes ended.ReadFault ends is = absurd (cc)
+  no_write_fault writes ended.NoMemory ends is = absurd (cc)
+  no_write_fault writes ended.TooLong ends is = absurd (cc)
 
--- bytes have one first fault at most, and none where they are a problem's file
-module _ (one_fault : (bytes : List ℕ) (a b : ProblemFault) → FirstProblemFault bytes a → FirstProblemFault bytes b → a ≡ b)
-    (never : (bytes : List ℕ) (p : ProblemParts) (fault : ProblemFault) → ProblemFile bytes p → FirstProblemFault bytes fault → ⊥)
-    (input : List ℕ) where
-  -- the search takes an input or leaves it
-  booked_and_unbuilt : HasBook input → IsUnbuilt input → ⊥
-  booked_and_unbuilt has checkpoint = has.1.1.no_checkpoint checkpoint
+-- a made problem's summary is written where no write failed and memory was there
+pub made : {K : Type 0} (grew : K → K → List ℕ → Type 0) (faults : K → ℕ) (old new : K) (number : ℕ) → (Rose (faults old) (faults new) → ⊥)
+    → (status : Status) → EndsMake grew faults old new number status → (status ≡ ended.Finished) ⊎ (status ≡ ended.NoMemory)
+made grew faults old new number writes ended.Finished ends = inl refl
+made grew faults old new number writes ended.NoMemory ends = inr refl
+made grew faults old new number writes ended.WriteFault ends = absurd (writes ends.3)
+made grew faults old new number writes (ended.Words fault) ends = absurd ends
+made grew faults old new number writes (ended.Stopped after) ends = absurd ends
+made grew faults old new number writes (ended.Problem fault) ends = absurd ends
+made grew faults old new number writes (ended.Checkpoint fault) ends = absurd ends
+made grew faults old new number writes ended.ReadFault ends = absurd ends
+made grew faults old new number writes ended.TooLong ends = absurd ends
 
-  -- an input is a problem or has a fault
-  booked_and_refused : (fault : ProblemFault) → HasBook input → IsRefused input fault → ⊥
-  booked_and_refused fault has refused = never input has.1.1.problem fault has.1.1.file refused.1
+-- the problem of an input passes all checks
+input_is_sound : (input bytes : List ℕ) (p : ProblemParts) (found nodes : List (List ℕ)) → Input input bytes p found nodes → IsSound p
+input_is_sound input bytes p found nodes (inl is) = is.file.problem.sound
+input_is_sound input bytes p found nodes (inr is) = is.file.sound
 
-  unbuilt_and_refused : (fault : ProblemFault) → IsUnbuilt input → IsRefused input fault → ⊥
-  unbuilt_and_refused fault checkpoint refused = refused.0 checkpoint
+-- an input has one size and no fault, and bytes have one fault of a kind at most
+module _ (input : List ℕ)
+    (one_size : length input ≤ 2 ^ 40 → (bytes : List ℕ) (p : ProblemParts) (found nodes : List (List ℕ)) (others : List ℕ) (q : ProblemParts) (those these : List (List ℕ))
+    → Input input bytes p found nodes → Input input others q those these → size_of_all p most_rows nodes ≡ size_of_all q most_rows these)
+    (no_problem_fault : (bytes : List ℕ) (p : ProblemParts) (found nodes : List (List ℕ)) (fault : ProblemFault)
+    → Input input bytes p found nodes → IsNoProblem input fault → ⊥)
+    (no_check_fault : length input ≤ 2 ^ 40 → (bytes : List ℕ) (p : ProblemParts) (found nodes : List (List ℕ)) (fault : CheckFault)
+    → Input input bytes p found nodes → IsNoCheckpoint input fault → ⊥)
+    (one_problem_fault : (a b : ProblemFault) → IsNoProblem input a → IsNoProblem input b → a ≡ b)
+    (one_check_fault : (a b : CheckFault) → IsNoCheckpoint input a → IsNoCheckpoint input b → a ≡ b) where
+  module _ (some : (p : ProblemParts) → IsSound p → (nodes : List (List ℕ)) → 0 < length nodes → 1 ≤ size_of_all p most_rows nodes)
+      (turns : Option ℕ) (bytes : List ℕ) (p : ProblemParts) (found nodes : List (List ℕ)) (is : Input input bytes p found nodes)
+      (short : length input ≤ 2 ^ 40) where
+    -- a stop is before the whole size
+    stops_before : (after : ℕ) (text : List ℕ) → IsStopOf after input text → after < size_of_all p most_rows nodes
+    stops_before after text stop =
+        omega (
+          arith,
+          stop.size,
+          some stop.same.p (input_is_sound input stop.same.bytes stop.same.p stop.same.found stop.same.nodes stop.same.input) stop.same.other_nodes stop.some,
+          one_size short bytes p found nodes stop.same.bytes stop.same.p stop.same.found stop.same.nodes is stop.same.input,
+        )
 
-  built_and_unbuilt : IsBuilt input → IsUnbuilt input → ⊥
-  built_and_unbuilt built checkpoint = built.no_checkpoint checkpoint
+    few : (text : List ℕ) → IsBookOf turns input text → KeepsTo turns (size_of_all p most_rows nodes)
+    few text book = subst (KeepsTo turns) (one_size short book.bytes book.p book.found book.nodes bytes p found nodes book.of_input is) book.keeps
 
-  -- what the search takes ends with its book, unless a write failed
-  pub finishes : (status : Status) → IsBuilt input → (status ≡ ended.WriteFault → ⊥) → Says input status
-      → (status ≡ ended.Finished) ⊎ (status ≡ ended.NoMemory)
-  finishes ended.Finished built writes says = inl refl
-  finishes ended.NoMemory built writes says = inr refl
-  finishes ended.WriteFault built writes says = absurd (writes refl)
-  finishes (ended.Problem fault) built writes says = absurd (never input built.problem fault built.file says.1.1)
-  finishes ended.Unbuilt built writes says = absurd (built_and_unbuilt built says.1)
-  finishes ended.TooLong built writes says = let long : 2 ^ 40 < length input = says in absurd (omega (arith, built.short))
-  finishes ended.Words built writes says = absurd says
-  finishes ended.ReadFault built writes says = absurd says
+    kept_turns : (turns : Option ℕ) (after number : ℕ) → turns ≡ Some after → KeepsTo turns number → number ≤ after
+    kept_turns None after number is keeps = absurd (cc)
+    kept_turns (Some most) after number is keeps = let same : most ≡ after = cc in omega (arith, same, keeps)
 
-  refused : (fault : ProblemFault) (status : Status) → (length input ≤ 2 ^ 40) × IsRefused input fault → Says input status
-      → (status ≡ ended.Problem fault) ⊎ (status ≡ ended.NoMemory)
-  refused fault (ended.Problem other) due says = inl (ap ended.Problem (one_fault input other fault says.1.1 due.1.1))
-  refused fault ended.NoMemory due says = inr refl
-  refused fault ended.Finished due says = absurd (booked_and_refused fault says due.1)
-  refused fault ended.WriteFault due says = absurd (booked_and_refused fault says due.1)
-  refused fault ended.Unbuilt due says = absurd (unbuilt_and_refused fault says.1 due.1)
-  refused fault ended.TooLong due says = let long : 2 ^ 40 < length input = says in absurd (omega (arith, due.0))
-  refused fault ended.Words due says = absurd says
-  refused fault ended.ReadFault due says = absurd says
+    -- with enough turns the book is written, unless a write failed
+    pub finishes : KeepsTo turns (size_of_all p most_rows nodes) → (status : Status) → (status ≡ ended.WriteFault → ⊥) → Says turns input status
+        → (status ≡ ended.Finished) ⊎ (status ≡ ended.NoMemory)
+    finishes keeps ended.Finished writes says = inl refl
+    finishes keeps ended.NoMemory writes says = inr refl
+    finishes keeps (ended.Stopped after) writes says =
+        absurd (omega (arith, stops_before after says.1.0 says.1.1.1, kept_turns turns after (size_of_all p most_rows nodes) says.1.1.0 keeps))
+    finishes keeps ended.WriteFault writes says = absurd (writes refl)
+    finishes keeps (ended.Problem fault) writes says = absurd (no_problem_fault bytes p found nodes fault is says.1)
+    finishes keeps (ended.Checkpoint fault) writes says = absurd (no_check_fault short bytes p found nodes fault is says.1)
+    finishes keeps ended.TooLong writes says = let long : 2 ^ 40 < length input = says in absurd (omega (arith, short))
+    finishes keeps (ended.Words fault) writes says = absurd says
+    finishes keeps ended.ReadFault writes says = absurd says
 
-  left_alone : (status : Status) → (length input ≤ 2 ^ 40) × IsUnbuilt input → Says input status
-      → (status ≡ ended.Unbuilt) ⊎ (status ≡ ended.NoMemory)
-  left_alone ended.Unbuilt due says = inl refl
-  left_alone ended.NoMemory due says = inr refl
-  left_alone ended.Finished due says = absurd (booked_and_unbuilt says due.1)
-  left_alone ended.WriteFault due says = absurd (booked_and_unbuilt says due.1)
-  left_alone (ended.Problem fault) due says = absurd (unbuilt_and_refused fault due.1 says.1)
-  left_alone ended.TooLong due says = let long : 2 ^ 40 < length input = says in absurd (omega (arith, due.0))
-  left_alone ended.Words due says = absurd says
-  left_alone ended.ReadFault due says = absurd says
+    -- with too few a checkpoint is
+    pub stops : (after : ℕ) → turns ≡ Some after → after < size_of_all p most_rows nodes → (status : Status) → (status ≡ ended.WriteFault → ⊥)
+        → Says turns input status → (status ≡ ended.Stopped after) ⊎ (status ≡ ended.NoMemory)
+    stops after allowed less ended.Finished writes says =
+        absurd (omega (arith, kept_turns turns after (size_of_all p most_rows nodes) allowed (few says.1.0 says.1.1)))
+    stops after allowed less ended.NoMemory writes says = inr refl
+    stops after allowed less (ended.Stopped other) writes says =
+        let same : Some other ≡ Some after = sym says.1.1.0 ∙ allowed in
+        let one : other ≡ after = cc in
+        inl (ap ended.Stopped one)
+    stops after allowed less ended.WriteFault writes says = absurd (writes refl)
+    stops after allowed less (ended.Problem fault) writes says = absurd (no_problem_fault bytes p found nodes fault is says.1)
+    stops after allowed less (ended.Checkpoint fault) writes says = absurd (no_check_fault short bytes p found nodes fault is says.1)
+    stops after allowed less ended.TooLong writes says = let long : 2 ^ 40 < length input = says in absurd (omega (arith, short))
+    stops after allowed less (ended.Words fault) writes says = absurd says
+    stops after allowed less ended.ReadFault writes says = absurd says
 
-  too_long : (status : Status) → 2 ^ 40 < length input → Says input status → (status ≡ ended.TooLong) ⊎ (status ≡ ended.NoMemory)
-  too_long ended.TooLong due says = inl refl
-  too_long ended.NoMemory due says = inr refl
-  too_long ended.Finished due says = absurd (omega (arith, due, says.0))
-  too_long ended.WriteFault due says = absurd (omega (arith, due, says.0))
-  too_long (ended.Problem fault) due says = absurd (omega (arith, due, says.0))
-  too_long ended.Unbuilt due says = absurd (omega (arith, due, says.0))
-  too_long ended.Words due says = absurd says
-  too_long ended.ReadFault due says = absurd says
+  -- what a text belongs to is an input
+  reached_input : (turns : Option ℕ) (text : List ℕ) (stopped : Option ℕ) → IsReached turns input text stopped
+      → (bytes : List ℕ) × (p : ProblemParts) × (found : List (List ℕ)) × (nodes : List (List ℕ)) × Input input bytes p found nodes
+  reached_input turns text None book = (book.bytes, book.p, book.found, book.nodes, book.of_input)
+  reached_input turns text (Some after) stop =
+      (stop.1.same.bytes, stop.1.same.p, stop.1.same.found, stop.1.same.nodes, stop.1.same.input)
 
-  -- each refusal that an input is due comes, unless memory was wanting
-  pub refuses : (due status : Status) → IsDue input due → Says input status → (status ≡ due) ⊎ (status ≡ ended.NoMemory)
-  refuses (ended.Problem fault) status is says = refused fault status is says
-  refuses ended.Unbuilt status is says = left_alone status is says
-  refuses ended.TooLong status is says = too_long status is says
-  refuses ended.Finished status is says = absurd is
-  refuses ended.WriteFault status is says = absurd is
-  refuses ended.NoMemory status is says = absurd is
-  refuses ended.Words status is says = absurd is
-  refuses ended.ReadFault status is says = absurd is
+  not_both : (turns : Option ℕ) (text : List ℕ) (stopped : Option ℕ) (fault : ProblemFault) → IsReached turns input text stopped → IsNoProblem input fault → ⊥
+  not_both turns text stopped fault reached wrong =
+      let (bytes, p, found, nodes, is) = reached_input turns text stopped reached in no_problem_fault bytes p found nodes fault is wrong
+
+  not_either : length input ≤ 2 ^ 40 → (turns : Option ℕ) (text : List ℕ) (stopped : Option ℕ) (fault : CheckFault) → IsReached turns input text stopped → IsNoCheckpoint input fault → ⊥
+  not_either short turns text stopped fault reached wrong =
+      let (bytes, p, found, nodes, is) = reached_input turns text stopped reached in no_check_fault short bytes p found nodes fault is wrong
+
+  module _ (turns : Option ℕ) where
+    no_problem : (fault : ProblemFault) (status : Status) → (length input ≤ 2 ^ 40) × IsNoProblem input fault → Says turns input status
+        → (status ≡ ended.Problem fault) ⊎ (status ≡ ended.NoMemory)
+    no_problem fault (ended.Problem other) due says = inl (ap ended.Problem (one_problem_fault other fault says.1 due.1))
+    no_problem fault ended.NoMemory due says = inr refl
+    no_problem fault (ended.Checkpoint other) due says = absurd (due.1.0 says.1.0)
+    no_problem fault ended.Finished due says = absurd (not_both turns says.1.0 None fault says.1.1 due.1)
+    no_problem fault (ended.Stopped after) due says = absurd (not_both turns says.1.0 (Some after) fault says.1.1 due.1)
+    no_problem fault ended.WriteFault due says = absurd (not_both turns says.1.0 says.1.1.0 fault says.1.1.1 due.1)
+    no_problem fault ended.TooLong due says = let long : 2 ^ 40 < length input = says in absurd (omega (arith, due.0))
+    no_problem fault (ended.Words other) due says = absurd says
+    no_problem fault ended.ReadFault due says = absurd says
+
+    no_checkpoint : (fault : CheckFault) (status : Status) → (length input ≤ 2 ^ 40) × IsNoCheckpoint input fault → Says turns input status
+        → (status ≡ ended.Checkpoint fault) ⊎ (status ≡ ended.NoMemory)
+    no_checkpoint fault (ended.Checkpoint other) due says = inl (ap ended.Checkpoint (one_check_fault other fault says.1 due.1))
+    no_checkpoint fault ended.NoMemory due says = inr refl
+    no_checkpoint fault (ended.Problem other) due says = absurd (says.1.0 due.1.0)
+    no_checkpoint fault ended.Finished due says = absurd (not_either due.0 turns says.1.0 None fault says.1.1 due.1)
+    no_checkpoint fault (ended.Stopped after) due says = absurd (not_either due.0 turns says.1.0 (Some after) fault says.1.1 due.1)
+    no_checkpoint fault ended.WriteFault due says = absurd (not_either due.0 turns says.1.0 says.1.1.0 fault says.1.1.1 due.1)
+    no_checkpoint fault ended.TooLong due says = let long : 2 ^ 40 < length input = says in absurd (omega (arith, due.0))
+    no_checkpoint fault (ended.Words other) due says = absurd says
+    no_checkpoint fault ended.ReadFault due says = absurd says
+
+    too_long : (status : Status) → 2 ^ 40 < length input → Says turns input status → (status ≡ ended.TooLong) ⊎ (status ≡ ended.NoMemory)
+    too_long ended.TooLong due says = inl refl
+    too_long ended.NoMemory due says = inr refl
+    too_long ended.Finished due says = absurd (omega (arith, due, says.0))
+    too_long (ended.Stopped after) due says = absurd (omega (arith, due, says.0))
+    too_long ended.WriteFault due says = absurd (omega (arith, due, says.0))
+    too_long (ended.Problem fault) due says = absurd (omega (arith, due, says.0))
+    too_long (ended.Checkpoint fault) due says = absurd (omega (arith, due, says.0))
+    too_long (ended.Words fault) due says = absurd says
+    too_long ended.ReadFault due says = absurd says
+
+    -- each refusal that an input is due comes, unless memory was wanting
+    pub refuses : (due status : Status) → IsDue input due → Says turns input status → (status ≡ due) ⊎ (status ≡ ended.NoMemory)
+    refuses (ended.Problem fault) status is says = no_problem fault status is says
+    refuses (ended.Checkpoint fault) status is says = no_checkpoint fault status is says
+    refuses ended.TooLong status is says = too_long status is says
+    refuses ended.Finished status is says = absurd is
+    refuses (ended.Stopped after) status is says = absurd is
+    refuses ended.WriteFault status is says = absurd is
+    refuses ended.NoMemory status is says = absurd is
+    refuses (ended.Words fault) status is says = absurd is
+    refuses ended.ReadFault status is says = absurd is

@@ -1,7 +1,9 @@
 pub mod Codes
-pub mod Endings
 pub mod Lines
 pub mod Noted
 pub mod Pieces
-pub mod Searches
-pub mod Words
+pub mod Made
+pub mod Runs
+pub mod Texts
+pub mod Starts
+pub mod Endings

@@ -9,6 +9,10 @@ use Rattle.cr_model.specs.declared.file_fault.Whose.{Whose}
 use Rattle.cr_model.specs.declared.file_fault.Whose.TheVariants as owner
 use Rattle.cr_model.specs.declared.file_fault.ProblemFault.{ProblemFault}
 use Rattle.cr_model.specs.declared.file_fault.ProblemFault.TheVariants as fault
+use Rattle.cr_store.specs.declared.fault.CheckFault.{CheckFault}
+use Rattle.cr_store.specs.declared.fault.CheckFault.TheVariants as check
+use Rattle.cr_words.specs.declared.fault.WordsFault.{WordsFault}
+use Rattle.cr_words.specs.declared.fault.WordsFault.TheVariants as wrong
 use Rattle.cr_top.specs.declared.status.Status.{Status}
 use Rattle.cr_top.specs.declared.status.Status.TheVariants as status
 
@@ -71,6 +75,27 @@ problem_words (fault.Pattern index) = codes "15 Pattern" ++ number index
 problem_words fault.NoMemory = codes "16 NoMemory"
 problem_words fault.Com = codes "17 Com"
 
+-- the number and the name of a fault of the command line
+abbrev pub fault_words : WordsFault → List ℕ
+fault_words wrong.Line = codes "1 Line"
+fault_words wrong.Workers = codes "2 Workers"
+fault_words wrong.Turns = codes "3 Turns"
+fault_words wrong.Number = codes "4 Number"
+fault_words wrong.Mode = codes "5 Mode"
+fault_words wrong.Mixed = codes "6 Mixed"
+fault_words wrong.NoMemory = codes "7 NoMemory"
+
+-- the number, the name and the details of a fault of a checkpoint; of its problem's fault again number, name and details
+abbrev pub check_words : CheckFault → List ℕ
+check_words (check.Form at) = codes "1 Form" ++ number at
+check_words (check.Problem wrong) = codes "2 Problem " ++ problem_words wrong
+check_words (check.Calling at) = codes "3 Calling" ++ number at
+check_words (check.NodeLong at) = codes "4 NodeLong" ++ number at
+check_words (check.NotKept at) = codes "5 NotKept" ++ number at
+check_words (check.FoundOrder at) = codes "6 FoundOrder" ++ number at
+check_words (check.Overlap earlier at) = codes "7 Overlap" ++ (number earlier ++ number at)
+check_words check.NoMemory = codes "8 NoMemory"
+
 -- the program's name, the words, and a line feed
 abbrev pub line : List ℕ → List ℕ
 line words = codes "ringsearch: " ++ (words ++ (10 ∷ []))
@@ -78,10 +103,11 @@ line words = codes "ringsearch: " ++ (words ++ (10 ∷ []))
 -- the line of a status, and nothing where the run finished
 abbrev pub note_line : Status → List ℕ
 note_line status.Finished = []
-note_line status.Words = line (codes "words 1 Line")
-note_line (status.Problem wrong) = line (codes "problem " ++ problem_words wrong)
+note_line (status.Words fault) = line (codes "words " ++ fault_words fault)
+note_line (status.Stopped turns) = line (codes "stopped after " ++ (decimal turns ++ codes " turns"))
+note_line (status.Problem fault) = line (codes "problem " ++ problem_words fault)
+note_line (status.Checkpoint fault) = line (codes "checkpoint " ++ check_words fault)
 note_line status.ReadFault = line (codes "read failed")
 note_line status.WriteFault = line (codes "write failed")
 note_line status.NoMemory = line (codes "no memory")
 note_line status.TooLong = line (codes "input too long")
-note_line status.Unbuilt = line (codes "unbuilt")

@@ -1,18 +1,27 @@
-//! The top call: from the words of the command line and the bytes of the input to the bytes of the book.
+//! The top call: from the words of the command line and the bytes of the input to the bytes of the book or of a
+//! checkpoint.
 #![tactic(auto)]
 
+mod boards;
+mod gate;
+mod making;
 mod notes;
 #[cfg(test)]
 mod notes_tests;
+mod outcome;
 mod piece;
-mod search;
-mod searched;
+mod searching;
+mod start;
 mod status;
+#[cfg(test)]
+mod stop_tests;
 #[cfg(test)]
 mod tests;
 mod top;
-mod words;
+#[cfg(test)]
+mod worker_tests;
 
+pub use gate::{Gate, OpenGate};
 pub use notes::write_note;
 pub use status::Status;
 pub use top::ringsearch;

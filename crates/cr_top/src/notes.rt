@@ -4,7 +4,7 @@ ghost use Rattle.std.specs.Prelude.{◌≡◌, ◌≤◌, ◌++◌, map, codes};
 ghost use Rattle.std.specs.Fmt.{decimal, signed_decimal};
 ghost use Rattle.cr_io.specs.Causes.{Rose};
 ghost use Rattle.cr_top.specs.Noted.{IsWritten, AppendsFront};
-ghost use Rattle.cr_top.specs.Lines.{shown, notation_words, problem_words, line, note_line};
+ghost use Rattle.cr_top.specs.Lines.{shown, notation_words, fault_words, problem_words, check_words, line, note_line};
 ghost use Rattle.cr_top.specs.Pieces.{piece_text, text_of};
 
 use crate::Status;
@@ -12,6 +12,8 @@ use crate::piece::Piece;
 use crate::piece::Piece::*;
 use cr_io::{Sink, WriteFault, write_whole};
 use cr_model::{CountAt, NotationFault, ProblemFault, Whose};
+use cr_store::CheckFault;
+use cr_words::WordsFault;
 use itoa::Buffer;
 
 // Appends a text.
@@ -121,27 +123,49 @@ fn write_line<N: Sink>(notes: &mut N, pieces: &[Piece]) -> Result<(), WriteFault
     write_ended(notes, pieces)
 }
 
-// Appends the line of a fault: its number, its name and its details.
-fn write_problem<N: Sink>(notes: &mut N, fault: &ProblemFault) -> Result<(), WriteFault>
-    ensures { IsWritten N.grew N.faults notes.old notes.new result
-        (line (codes "problem " ++ problem_words fault.now)) }
+// Appends the line of a fault of the command line: its number and its name.
+fn write_words<N: Sink>(notes: &mut N, fault: WordsFault) -> Result<(), WriteFault>
+    ensures { IsWritten N.grew N.faults notes.old notes.new result (line (codes "words " ++ fault_words fault)) }
 {
     match fault {
-        ProblemFault::NotToml => write_line(notes, &[Text(b"problem 1 NotToml")]),
-        ProblemFault::Key(key) => write_line(notes, &[Text(b"problem 2 Key "), Shown(&key.bytes)]),
+        WordsFault::Line => write_line(notes, &[Text(b"words 1 Line")]),
+        WordsFault::Workers => write_line(notes, &[Text(b"words 2 Workers")]),
+        WordsFault::Turns => write_line(notes, &[Text(b"words 3 Turns")]),
+        WordsFault::Number => write_line(notes, &[Text(b"words 4 Number")]),
+        WordsFault::Mode => write_line(notes, &[Text(b"words 5 Mode")]),
+        WordsFault::Mixed => write_line(notes, &[Text(b"words 6 Mixed")]),
+        WordsFault::NoMemory => write_line(notes, &[Text(b"words 7 NoMemory")]),
+    }
+}
+
+// Appends the line of a fault of a problem: these words, and its number, its name and its details.
+fn write_problem<'a, N: Sink>(
+    notes: &mut N,
+    words: &'a [u8],
+    fault: &'a ProblemFault,
+) -> Result<(), WriteFault>
+    ensures { IsWritten N.grew N.faults notes.old notes.new result (line (words.now ++ problem_words fault.now)) }
+{
+    match fault {
+        ProblemFault::NotToml => write_line(notes, &[Text(words), Text(b"1 NotToml")]),
+        ProblemFault::Key(key) => write_line(
+            notes,
+            &[Text(words), Text(b"2 Key "), Shown(&key.bytes)],
+        ),
         ProblemFault::Stage(stage) => write_line(
             notes,
-            &[Text(b"problem 3 Stage "), Signed(*stage)],
+            &[Text(words), Text(b"3 Stage "), Signed(*stage)],
         ),
         ProblemFault::Letter(method) => write_line(
             notes,
-            &[Text(b"problem 4 Letter "), Number(*method)],
+            &[Text(words), Text(b"4 Letter "), Number(*method)],
         ),
         ProblemFault::Notation(Whose::Method(index), wrong) => {
             write_line(
                 notes,
                 &[
-                    Text(b"problem 5 Notation method "),
+                    Text(words),
+                    Text(b"5 Notation method "),
                     Number(*index),
                     Wrong(*wrong),
                 ],
@@ -151,19 +175,27 @@ fn write_problem<N: Sink>(notes: &mut N, fault: &ProblemFault) -> Result<(), Wri
             write_line(
                 notes,
                 &[
-                    Text(b"problem 5 Notation call "),
+                    Text(words),
+                    Text(b"5 Notation call "),
                     Number(*index),
                     Wrong(*wrong),
                 ],
             )
         }
-        ProblemFault::Over(call) => write_line(notes, &[Text(b"problem 6 Over "), Number(*call)]),
-        ProblemFault::Mark(call) => write_line(notes, &[Text(b"problem 7 Mark "), Number(*call)]),
+        ProblemFault::Over(call) => write_line(
+            notes,
+            &[Text(words), Text(b"6 Over "), Number(*call)],
+        ),
+        ProblemFault::Mark(call) => write_line(
+            notes,
+            &[Text(words), Text(b"7 Mark "), Number(*call)],
+        ),
         ProblemFault::CallLength(call, method) => {
             write_line(
                 notes,
                 &[
-                    Text(b"problem 8 CallLength "),
+                    Text(words),
+                    Text(b"8 CallLength "),
                     Number(*call),
                     Text(b" "),
                     Number(*method),
@@ -174,7 +206,8 @@ fn write_problem<N: Sink>(notes: &mut N, fault: &ProblemFault) -> Result<(), Wri
             write_line(
                 notes,
                 &[
-                    Text(b"problem 9 Clash "),
+                    Text(words),
+                    Text(b"9 Clash "),
                     Number(*first),
                     Text(b" "),
                     Number(*second),
@@ -183,13 +216,14 @@ fn write_problem<N: Sink>(notes: &mut N, fault: &ProblemFault) -> Result<(), Wri
         }
         ProblemFault::Steps(leads) => write_line(
             notes,
-            &[Text(b"problem 10 Steps "), Number(*leads)],
+            &[Text(words), Text(b"10 Steps "), Number(*leads)],
         ),
         ProblemFault::Range(low, high) => {
             write_line(
                 notes,
                 &[
-                    Text(b"problem 11 Range "),
+                    Text(words),
+                    Text(b"11 Range "),
                     Signed(*low),
                     Text(b" "),
                     Signed(*high),
@@ -198,24 +232,66 @@ fn write_problem<N: Sink>(notes: &mut N, fault: &ProblemFault) -> Result<(), Wri
         }
         ProblemFault::Deep(depth) => write_line(
             notes,
-            &[Text(b"problem 12 Deep "), Number(*depth)],
+            &[Text(words), Text(b"12 Deep "), Number(*depth)],
         ),
         ProblemFault::Parts(parts) => write_line(
             notes,
-            &[Text(b"problem 13 Parts "), Signed(*parts)],
+            &[Text(words), Text(b"13 Parts "), Signed(*parts)],
         ),
         ProblemFault::Count(CountAt::Mark(index)) => {
-            write_line(notes, &[Text(b"problem 14 Count count "), Number(*index)])
+            write_line(
+                notes,
+                &[Text(words), Text(b"14 Count count "), Number(*index)],
+            )
         }
         ProblemFault::Count(CountAt::Method(index)) => {
-            write_line(notes, &[Text(b"problem 14 Count leads "), Number(*index)])
+            write_line(
+                notes,
+                &[Text(words), Text(b"14 Count leads "), Number(*index)],
+            )
         }
         ProblemFault::Pattern(index) => write_line(
             notes,
-            &[Text(b"problem 15 Pattern "), Number(*index)],
+            &[Text(words), Text(b"15 Pattern "), Number(*index)],
         ),
-        ProblemFault::NoMemory => write_line(notes, &[Text(b"problem 16 NoMemory")]),
-        ProblemFault::Com => write_line(notes, &[Text(b"problem 17 Com")]),
+        ProblemFault::NoMemory => write_line(notes, &[Text(words), Text(b"16 NoMemory")]),
+        ProblemFault::Com => write_line(notes, &[Text(words), Text(b"17 Com")]),
+    }
+}
+
+// Appends the line of a fault of a checkpoint: its number, its name and its details.
+fn write_check<N: Sink>(notes: &mut N, fault: &CheckFault) -> Result<(), WriteFault>
+    ensures { IsWritten N.grew N.faults notes.old notes.new result (line (codes "checkpoint " ++ check_words fault.now)) }
+{
+    match fault {
+        CheckFault::Form(at) => write_line(notes, &[Text(b"checkpoint 1 Form "), Number(*at)]),
+        CheckFault::Problem(wrong) => write_problem(notes, b"checkpoint 2 Problem ", wrong),
+        CheckFault::Calling(at) => write_line(
+            notes,
+            &[Text(b"checkpoint 3 Calling "), Number(*at)],
+        ),
+        CheckFault::NodeLong(at) => write_line(
+            notes,
+            &[Text(b"checkpoint 4 NodeLong "), Number(*at)],
+        ),
+        CheckFault::NotKept(at) => write_line(
+            notes,
+            &[Text(b"checkpoint 5 NotKept "), Number(*at)],
+        ),
+        CheckFault::FoundOrder(at) => write_line(
+            notes,
+            &[Text(b"checkpoint 6 FoundOrder "), Number(*at)],
+        ),
+        CheckFault::Overlap(earlier, at) => write_line(
+            notes,
+            &[
+                Text(b"checkpoint 7 Overlap "),
+                Number(*earlier),
+                Text(b" "),
+                Number(*at),
+            ],
+        ),
+        CheckFault::NoMemory => write_line(notes, &[Text(b"checkpoint 8 NoMemory")]),
     }
 }
 
@@ -226,13 +302,17 @@ fn write_status<N: Sink>(notes: &mut N, status: &Status) -> Result<(), WriteFaul
 {
     match status {
         Status::Finished => Ok(()),
-        Status::Words => write_line(notes, &[Text(b"words 1 Line")]),
-        Status::Problem(fault) => write_problem(notes, fault),
+        Status::Words(fault) => write_words(notes, *fault),
+        Status::Stopped(turns) => write_line(
+            notes,
+            &[Text(b"stopped after "), Number(*turns), Text(b" turns")],
+        ),
+        Status::Problem(fault) => write_problem(notes, b"problem ", fault),
+        Status::Checkpoint(fault) => write_check(notes, fault),
         Status::ReadFault => write_line(notes, &[Text(b"read failed")]),
         Status::WriteFault => write_line(notes, &[Text(b"write failed")]),
         Status::NoMemory => write_line(notes, &[Text(b"no memory")]),
         Status::TooLong => write_line(notes, &[Text(b"input too long")]),
-        Status::Unbuilt => write_line(notes, &[Text(b"unbuilt")]),
     }
 }
 

@@ -1,10 +1,12 @@
 //! What no clause says of notes: each line as it is printed, and lines that a fault ends.
 
-use crate::Status::{self, Problem};
+use crate::Status::{self, Checkpoint, Problem, Words};
 use crate::notes::write_note;
 use cr_io::{MemSink, SureSink};
 use cr_model::ProblemFault::*;
 use cr_model::{CountAt, KeyPath, NotationFault, Whose};
+use cr_store::CheckFault;
+use cr_words::WordsFault::{self, Line, Mixed, Mode, Number, Turns, Workers};
 use std::test::Fail;
 
 // Nothing where this line was written, and else the line.
@@ -16,15 +18,35 @@ fn holds(line: &'static str, note: Option<&[u8]>) -> Result<(), Fail> {
     }
 }
 
-const STATUSES: [(Status, u8, &str); 8] = [
+const STATUSES: [(Status, u8, &str); 16] = [
     (Status::Finished, 0, ""),
-    (Status::Words, 2, "ringsearch: words 1 Line\n"),
+    (Words(Line), 2, "ringsearch: words 1 Line\n"),
+    (Words(Workers), 2, "ringsearch: words 2 Workers\n"),
+    (Words(Turns), 2, "ringsearch: words 3 Turns\n"),
+    (Words(Number), 2, "ringsearch: words 4 Number\n"),
+    (Words(Mode), 2, "ringsearch: words 5 Mode\n"),
+    (Words(Mixed), 2, "ringsearch: words 6 Mixed\n"),
+    (
+        Words(WordsFault::NoMemory),
+        2,
+        "ringsearch: words 7 NoMemory\n",
+    ),
+    (Status::Stopped(0), 3, "ringsearch: stopped after 0 turns\n"),
+    (
+        Status::Stopped(9_223_372_036_854_775_807),
+        3,
+        "ringsearch: stopped after 9223372036854775807 turns\n",
+    ),
     (Problem(NotToml), 4, "ringsearch: problem 1 NotToml\n"),
     (Status::ReadFault, 6, "ringsearch: read failed\n"),
     (Status::WriteFault, 7, "ringsearch: write failed\n"),
     (Status::NoMemory, 8, "ringsearch: no memory\n"),
     (Status::TooLong, 9, "ringsearch: input too long\n"),
-    (Status::Unbuilt, 90, "ringsearch: unbuilt\n"),
+    (
+        Checkpoint(CheckFault::Form(1)),
+        5,
+        "ringsearch: checkpoint 1 Form 1\n",
+    ),
 ];
 
 #[test]
@@ -40,7 +62,7 @@ fn each_status_has_its_number_and_its_line(rt: HostRuntime) -> Result<(), Fail> 
     Ok(())
 }
 
-const FAULTS: [(Status, &str); 30] = [
+const FAULTS: [(Status, &str); 39] = [
     (Problem(Stage(17)), "ringsearch: problem 3 Stage 17\n"),
     (Problem(Stage(-10)), "ringsearch: problem 3 Stage -10\n"),
     (Problem(Letter(1)), "ringsearch: problem 4 Letter 1\n"),
@@ -119,6 +141,42 @@ const FAULTS: [(Status, &str); 30] = [
     (Problem(Pattern(32)), "ringsearch: problem 15 Pattern 32\n"),
     (Problem(NoMemory), "ringsearch: problem 16 NoMemory\n"),
     (Problem(Com), "ringsearch: problem 17 Com\n"),
+    (
+        Checkpoint(CheckFault::Form(18)),
+        "ringsearch: checkpoint 1 Form 18\n",
+    ),
+    (
+        Checkpoint(CheckFault::Problem(Stage(17))),
+        "ringsearch: checkpoint 2 Problem 3 Stage 17\n",
+    ),
+    (
+        Checkpoint(CheckFault::Problem(Notation(Whose::Method(0), NotationFault::CrossOnOdd(0)))),
+        "ringsearch: checkpoint 2 Problem 5 Notation method 0 CrossOnOdd 0\n",
+    ),
+    (
+        Checkpoint(CheckFault::Calling(15)),
+        "ringsearch: checkpoint 3 Calling 15\n",
+    ),
+    (
+        Checkpoint(CheckFault::NodeLong(17)),
+        "ringsearch: checkpoint 4 NodeLong 17\n",
+    ),
+    (
+        Checkpoint(CheckFault::NotKept(15)),
+        "ringsearch: checkpoint 5 NotKept 15\n",
+    ),
+    (
+        Checkpoint(CheckFault::FoundOrder(16)),
+        "ringsearch: checkpoint 6 FoundOrder 16\n",
+    ),
+    (
+        Checkpoint(CheckFault::Overlap(17, 18)),
+        "ringsearch: checkpoint 7 Overlap 17 18\n",
+    ),
+    (
+        Checkpoint(CheckFault::NoMemory),
+        "ringsearch: checkpoint 8 NoMemory\n",
+    ),
 ];
 
 #[test]
@@ -155,16 +213,17 @@ fn paths_are_shown(rt: HostRuntime) -> Result<(), Fail> {
     Ok(())
 }
 
-// Which write fails, how many bytes a write takes, and what was written before: the pieces of the line
-// are its head, the fault's name, its number, and the line feed.
-const BROKEN: [(u64, u64, &str); 7] = [
+// Which write fails, how many bytes a write takes, and what was written before: the pieces of the line are its head,
+// the word of its status, the fault's name, its number, and the line feed.
+const BROKEN: [(u64, u64, &str); 8] = [
     (1, 100, ""),
     (1, 3, ""),
     (2, 3, "rin"),
     (2, 100, "ringsearch: "),
-    (3, 100, "ringsearch: problem 3 Stage "),
-    (4, 100, "ringsearch: problem 3 Stage 17"),
-    (5, 100, "ringsearch: problem 3 Stage 17\n"),
+    (3, 100, "ringsearch: problem "),
+    (4, 100, "ringsearch: problem 3 Stage "),
+    (5, 100, "ringsearch: problem 3 Stage 17"),
+    (6, 100, "ringsearch: problem 3 Stage 17\n"),
 ];
 
 #[test]

@@ -4,16 +4,22 @@ ghost use Rattle.std.specs.Prelude.{◌≡◌};
 ghost use Rattle.cr_top.specs.Codes.{code_of};
 
 use cr_model::ProblemFault;
+use cr_store::CheckFault;
+use cr_words::WordsFault;
 
 /// How a call of the program ended.
 #[derive(Debug, Drop)]
 pub enum Status {
-    /// The book was written whole.
+    /// The book, or the summary of a made problem, was written whole.
     Finished,
-    /// The words of the command line are not accepted.
-    Words,
-    /// The input is no problem: the first check that does not hold.
+    /// The words of the command line are not accepted: the first that is wrong.
+    Words(WordsFault),
+    /// After as many turns as were allowed, which are told, something was left, and a checkpoint was written whole.
+    Stopped(u64),
+    /// The input is no checkpoint, and no problem: the first check that does not hold.
     Problem(ProblemFault),
+    /// The input begins as a checkpoint, and is none: the first check that does not hold.
+    Checkpoint(CheckFault),
     /// A read of the source failed.
     ReadFault,
     /// A write to the sink failed.
@@ -22,8 +28,6 @@ pub enum Status {
     NoMemory,
     /// The source gave more than 2^40 bytes.
     TooLong,
-    /// The input is a checkpoint, or a problem that today's search does not take.
-    Unbuilt,
 }
 
 impl Status {
@@ -33,13 +37,14 @@ impl Status {
     {
         match self {
             Status::Finished => 0,
-            Status::Words => 2,
+            Status::Words(_) => 2,
+            Status::Stopped(_) => 3,
             Status::Problem(_) => 4,
+            Status::Checkpoint(_) => 5,
             Status::ReadFault => 6,
             Status::WriteFault => 7,
             Status::NoMemory => 8,
             Status::TooLong => 9,
-            Status::Unbuilt => 90,
         }
     }
 }

@@ -1,8 +1,10 @@
 //! What no clause says: whole calls, from words and bytes to status, bytes and note, with ample memory.
 
-use super::ringsearch;
+use super::{OpenGate, ringsearch};
 use cr_io::{MemSink, MemSource};
+use std::sync::Wait;
 use std::test::Fail;
+use std::thread::Threads;
 
 const MINIMUS_LEADS: &str = "stage = 4
 [[method]]
@@ -203,6 +205,15 @@ min = 2
 max = 1
 ";
 
+const SEVENTEEN: &str = "stage = 17
+[[method]]
+letter = \"A\"
+notation = \"x14x14,12\"
+[query]
+min = 1
+max = 24
+";
+
 const DEEP: &str = "stage = 8
 [[method]]
 letter = \"A\"
@@ -221,46 +232,64 @@ min = 1
 max = 24
 ";
 
+const DOUBLES: &str = "stage = 5
+[[method]]
+letter = \"A\"
+notation = \"5.1.5.1.5,125\"
+[[call]]
+mark = \"b\"
+notation = \"145\"
+[query]
+min = 1
+max = 120
+";
+
 const DONE: &str = "24 ppp\ntouches 1\n";
 
-const CALLS: [Call<'static>; 17] = [
-    ("no words", &[], MINIMUS, (0, 0, 0), 0, DONE, ""),
+const SUMMARY: &str = "plain bob minor 1 to 72\ntouches 9\nlongest 72\n36 2\n60 1\n72 6\n";
+
+const WORDS: [(&[&str], u8, &str, &str); 17] = [
+    (&[], 0, DONE, ""),
+    (&["--do", "search"], 0, DONE, ""),
+    (&["--workers=64", "--do=search"], 0, DONE, ""),
+    (&["--turns", "4"], 0, DONE, ""),
+    (&["--do", "make"], 0, SUMMARY, ""),
+    (&["--do", "make", "--number", "7"], 0, SUMMARY, ""),
+    (&["--workers", "0"], 2, "", "ringsearch: words 2 Workers\n"),
+    (&["--workers", "65"], 2, "", "ringsearch: words 2 Workers\n"),
+    (&["--turns="], 2, "", "ringsearch: words 3 Turns\n"),
     (
-        "both words",
-        &["--do", "search"],
-        MINIMUS,
-        (0, 0, 0),
-        0,
-        DONE,
-        "",
-    ),
-    (
-        "another mode",
-        &["--do", "make"],
-        MINIMUS,
-        (0, 0, 0),
+        &["--number", "4294967296"],
         2,
         "",
-        "ringsearch: words 1 Line\n",
+        "ringsearch: words 4 Number\n",
     ),
+    (&["--do", "find"], 2, "", "ringsearch: words 5 Mode\n"),
     (
-        "no mode",
-        &["--do"],
-        MINIMUS,
-        (0, 0, 0),
+        &["--do", "make", "--turns", "5"],
         2,
         "",
-        "ringsearch: words 1 Line\n",
+        "ringsearch: words 6 Mixed\n",
     ),
-    (
-        "one word more",
-        &["--do", "search", ""],
-        MINIMUS,
-        (0, 0, 0),
-        2,
-        "",
-        "ringsearch: words 1 Line\n",
-    ),
+    (&["--number", "1"], 2, "", "ringsearch: words 6 Mixed\n"),
+    (&["--bells"], 2, "", "ringsearch: words 1 Line\n"),
+    (&["--workers"], 2, "", "ringsearch: words 1 Line\n"),
+    (&["--help"], 2, "", "ringsearch: words 1 Line\n"),
+    (&["--do", "search", ""], 2, "", "ringsearch: words 1 Line\n"),
+];
+
+#[test]
+fn words(rt: HostRuntime) -> Result<(), Fail> {
+    for (words, code, written, noted) in WORDS {
+        run(
+            &rt,
+            ("words", words, MINIMUS, (0, 0, 0), code, written, noted),
+        )?;
+    }
+    Ok(())
+}
+
+const CALLS: [Call<'static>; 14] = [
     (
         "limits the wrong way round",
         &[],
@@ -269,15 +298,6 @@ const CALLS: [Call<'static>; 17] = [
         4,
         "",
         "ringsearch: problem 17 Com\n",
-    ),
-    (
-        "a checkpoint",
-        &[],
-        "ringsearch checkpoint 1\n",
-        (0, 0, 0),
-        90,
-        "",
-        "ringsearch: unbuilt\n",
     ),
     (
         "no TOML",
@@ -348,15 +368,34 @@ const CALLS: [Call<'static>; 17] = [
         MINIMUS,
         (0, 2, 0),
         7,
-        "24 ppp\ntou",
+        "24 ppp\ntouches 1",
         "ringsearch: write failed\n",
     ),
+    (
+        "the second read of more fails",
+        &[],
+        DOUBLES,
+        (2, 0, 0),
+        6,
+        "",
+        "ringsearch: read failed\n",
+    ),
+    (
+        "the third write of more fails",
+        &[],
+        DOUBLES,
+        (0, 3, 0),
+        7,
+        "20 bb\n40 pppp\n60 pbpbpb\n100 ppbp",
+        "ringsearch: write failed\n",
+    ),
+    ("notes fail at once", &[], SEVENTEEN, (0, 0, 1), 4, "", ""),
     ("the note fails too", &[], MINIMUS, (1, 0, 1), 6, "", ""),
     (
         "the note's number fails",
         &[],
         DEEP,
-        (0, 0, 3),
+        (0, 0, 4),
         4,
         "",
         "ringsearch: problem 12 Deep ",
@@ -371,9 +410,9 @@ fn words_inputs_and_faults(rt: HostRuntime) -> Result<(), Fail> {
     Ok(())
 }
 
-// One call of the whole. The source gives at most 50 bytes at a time, the sink takes at most 10. Err with
-// the name of the case where anything differs.
-fn run<R: AllocGlobal>(rt: &R, call: Call) -> Result<(), Fail> {
+// One call of the whole, whose source gives at most 50 bytes at a time and whose sink takes at most 16. Err with the
+// name of the case where anything differs.
+fn run<R: AllocGlobal + Threads + Wait + Sync>(rt: &R, call: Call) -> Result<(), Fail> {
     let (name, words, input, (read, write, note), code, written, noted) = call;
     let alloc = rt.alloc();
     let mut list = Vec::new(alloc);
@@ -382,9 +421,9 @@ fn run<R: AllocGlobal>(rt: &R, call: Call) -> Result<(), Fail> {
     }
     let bytes = input.as_bytes().to_vec(alloc)?;
     let mut source = MemSource::new(bytes, [read].to_vec(alloc)?, 50);
-    let mut sink = MemSink::new(alloc, [write].to_vec(alloc)?, 10);
+    let mut sink = MemSink::new(alloc, [write].to_vec(alloc)?, 16);
     let mut notes = MemSink::new(alloc, [note].to_vec(alloc)?, 100);
-    let status = ringsearch(rt, &list, &mut source, &mut sink, &mut notes);
+    let status = ringsearch(rt, &list, &mut source, &mut sink, &mut notes, &OpenGate);
     if status.code() == code
         && sink.bytes() == Some(written.as_bytes())
         && notes.bytes() == Some(noted.as_bytes())

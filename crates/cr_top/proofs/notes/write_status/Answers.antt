@@ -1,0 +1,4 @@
+use Rattle.cr_top.proofs.notes.write_status.Goals as goal
+
+pub returns-in-WriteFault-clause-written : goal.returns-in-WriteFault-clause-written
+returns-in-WriteFault-clause-written g c = rw c.in-WriteFault.is c.write_line-in-WriteFault.ensures

@@ -1,0 +1,60 @@
+-- How a search goes on from found touches and jobs, and where it ends.
+use Rattle.std.specs.Prelude.{◌≡◌, ℕ, ◌+◌, ◌≤◌, ◌⊎◌, ◌↔◌, ◌-◌, ⊤, min, List, [], Option, Some, None, option_map}
+use Rattle.cr_model.specs.Problems.{ProblemParts}
+use Rattle.cr_model.specs.Nodes.{Covers}
+use Rattle.cr_model.specs.Sizes.{most_rows, size_of_all}
+use Rattle.cr_model.specs.Checkpoints.{CanGoOn, nodes_of_jobs}
+
+-- the size of the nodes of jobs
+abbrev pub size_of_jobs : ProblemParts → List (List (List ℕ)) → ℕ
+size_of_jobs p jobs = size_of_all p most_rows (nodes_of_jobs jobs)
+
+-- a search can go on from these found touches and jobs, which cover what others covered, and so many turns have made
+-- the size of the jobs less
+pub record GoesOnTo (p : ProblemParts) (found : List (List ℕ)) (jobs : List (List (List ℕ)))
+    (now : List (List ℕ)) (left : List (List (List ℕ))) (used : ℕ) : Type 0 where
+  pub goes_on : CanGoOn p now left
+  pub covers : (calling : List ℕ) → Covers p now (nodes_of_jobs left) calling ↔ Covers p found (nodes_of_jobs jobs) calling
+  pub size : size_of_jobs p left + used ≡ size_of_jobs p jobs
+
+-- no more turns were used than are allowed
+abbrev pub KeepsTo : Option ℕ → ℕ → Type 0
+KeepsTo None used = ⊤
+KeepsTo (Some turns) used = used ≤ turns
+
+-- a search went on until no job was left or the turns that are allowed were used
+pub record RunsTo (p : ProblemParts) (found : List (List ℕ)) (jobs : List (List (List ℕ))) (turns : Option ℕ)
+    (now : List (List ℕ)) (left : List (List (List ℕ))) : Type 0 where
+  pub used : ℕ
+  pub on : GoesOnTo p found jobs now left used
+  pub keeps : KeepsTo turns used
+  pub ends : (left ≡ []) ⊎ (turns ≡ Some used)
+
+-- one board went on, until no job was left or its turns were used
+pub record BoardRan (p : ProblemParts) (found : List (List ℕ)) (jobs : List (List (List ℕ))) (turns : ℕ)
+    (now : List (List ℕ)) (left : List (List (List ℕ))) (used : ℕ) : Type 0 where
+  pub on : GoesOnTo p found jobs now left used
+  pub keeps : used ≤ turns
+  pub ends : (left ≡ []) ⊎ (turns ≡ used)
+
+-- the turns of the next board, of which none takes more than so many
+abbrev pub board_turns : Option ℕ → ℕ → ℕ
+board_turns None most = most
+board_turns (Some turns) most = min turns most
+
+-- the turns that are allowed after so many were used
+abbrev pub turns_after : Option ℕ → ℕ → Option ℕ
+turns_after turns used = option_map (λ most. most - used) turns
+
+-- a search under way, with so many turns allowed still
+pub record UnderWay (p : ProblemParts) (found : List (List ℕ)) (jobs : List (List (List ℕ))) (turns : Option ℕ)
+    (now : List (List ℕ)) (left : List (List (List ℕ))) (allowed : Option ℕ) : Type 0 where
+  pub used : ℕ
+  pub on : GoesOnTo p found jobs now left used
+  pub keeps : KeepsTo turns used
+  pub rest : allowed ≡ turns_after turns used
+
+-- the search stopped after so many turns, where some job is left; or none is left, or any number was allowed
+abbrev pub StopsAfter : List (List (List ℕ)) → Option ℕ → Option ℕ → Type 0
+StopsAfter left turns None = (left ≡ []) ⊎ (turns ≡ None)
+StopsAfter left turns (Some after) = (left ≡ [] → ⊥) × (turns ≡ Some after)

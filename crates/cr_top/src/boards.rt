@@ -1,0 +1,127 @@
+//! Boards, one after another, until no job is left or the turns that are allowed are used.
+
+ghost use Rattle.std.specs.Prelude.{◌≡◌, ◌<◌, ◌≤◌, ◌⊎◌, ◌↔◌, [], Some, IsTrue, IfOk};
+ghost use Rattle.cr_model.specs.Checkpoints.{CanGoOn};
+ghost use Rattle.cr_run.specs.Runs.{IsRun};
+ghost use Rattle.cr_store.specs.Written.{lists};
+ghost use Rattle.cr_top.specs.Runs.{KeepsTo, BoardRan, RunsTo, board_turns, turns_after};
+
+use cr_board::laws::journals_tell_boards;
+use cr_board::{Board, Opening};
+use cr_model::laws::sizes_are_sums;
+use cr_node::Explorer;
+use cr_row::NoMemory;
+use cr_run::laws::boards_at_rest;
+use cr_run::{run_alone, run_workers};
+use cr_store::{Left, left_of};
+use std::alloc::Global;
+use std::sync::Wait;
+use std::thread::Threads;
+
+/// The most turns of one board, 2^26: its journal has two entries for each grant of 4,096 turns, and is dropped with it.
+pub const BOARD_TURNS: u64 = 67_108_864;
+
+/// Goes on with a search by so many workers, on boards of at most so many turns each, until no job is left or the turns that are allowed are
+/// used. Err where no memory is left.
+pub fn run<R: AllocGlobal + Threads + Wait + Sync, E: Explorer + Sync>(
+    rt: &R,
+    workers: u32,
+    explorer: &E,
+    left: Left,
+    turns: Option<u64>,
+    most: u64,
+) -> Result<Left, NoMemory>
+    requires some { 0 < most }
+    requires goes_on { CanGoOn (E.explores explorer.now) left.found.items (lists left.jobs.items) }
+    requires some_workers { 1 ≤ workers }
+    requires few_workers { workers ≤ 64 }
+    ensures { IfOk result (λ now. RunsTo (E.explores explorer.now) left.found.items (lists left.jobs.items) turns
+        now.found.items (lists now.jobs.items)) }
+{
+    sizes_are_sums();
+    let _ = explorer.problem().stage();
+    let mut now = left;
+    let mut allowed = turns;
+    while !is_over(&now, allowed) {
+        let (left, used) = run_board(rt, workers, explorer, now, granted(allowed, most))?;
+        now = left;
+        allowed = without(allowed, used);
+    }
+    Ok(now)
+}
+
+// Whether no job is left, or no turn is allowed.
+fn is_over(left: &Left, turns: Option<u64>) -> bool
+    ensures { IsTrue result ↔ ((lists left.now.jobs.items ≡ []) ⊎ (turns ≡ Some 0)) }
+{
+    left.jobs.is_empty() || turns == Some(0)
+}
+
+// How many turns a board may take.
+fn granted(turns: Option<u64>, most: u64) -> u64
+    ensures { result ≡ board_turns turns most }
+{
+    match turns {
+        Some(turns) => turns.min(most),
+        None => most,
+    }
+}
+
+// The turns that are allowed after so many.
+fn without(turns: Option<u64>, used: u64) -> Option<u64>
+    requires { KeepsTo turns used }
+    ensures { result ≡ turns_after turns used }
+{
+    match turns {
+        Some(turns) => Some(turns - used),
+        None => None,
+    }
+}
+
+// Opens a board of what is left and runs it until no job is left or so many turns are used; with how many were.
+fn run_board<R: AllocGlobal + Threads + Wait + Sync, E: Explorer + Sync>(
+    rt: &R,
+    workers: u32,
+    explorer: &E,
+    left: Left,
+    turns: u64,
+) -> Result<(Left, u64), NoMemory>
+    requires goes_on { CanGoOn (E.explores explorer.now) left.found.items (lists left.jobs.items) }
+    requires some_workers { 1 ≤ workers }
+    requires few_workers { workers ≤ 64 }
+    ensures { IfOk result (λ ran. BoardRan (E.explores explorer.now) left.found.items (lists left.jobs.items) turns
+        ran.0.found.items (lists ran.0.jobs.items) ran.1) }
+{
+    journals_tell_boards();
+    let alloc = rt.alloc();
+    let problem = explorer.problem().copy(alloc)?;
+    let opening = Opening::new(problem, left.found, left.jobs, Some(turns), workers);
+    let board = run_opening(rt, opening, explorer)?;
+    let left = left_of(alloc, &board)?;
+    Ok((left, board.spent() as u64))
+}
+
+// Runs a board of an opening to its end, by as many workers as it has. One alone takes no lock.
+fn run_opening<R: AllocGlobal + Threads + Wait + Sync, E: Explorer + Sync>(
+    rt: &R,
+    opening: Opening,
+    explorer: &E,
+) -> Result<Board, NoMemory>
+    requires { E.explores explorer.now ≡ opening.problem }
+    ensures { IfOk result (IsRun opening) }
+{
+    if opening.workers() == 1 {
+        run_one(rt.alloc(), opening, explorer)
+    } else {
+        run_workers(rt, rt.alloc(), opening, explorer)
+    }
+}
+
+// Runs a board of an opening by one worker.
+fn run_one<E: Explorer>(alloc: Global, opening: Opening, explorer: &E) -> Result<Board, NoMemory>
+    requires { E.explores explorer.now ≡ opening.problem }
+    ensures { IfOk result (IsRun opening) }
+{
+    boards_at_rest();
+    run_alone(alloc, Board::open(alloc, opening)?, explorer)
+}
