@@ -18,7 +18,8 @@ use std::thread::Threads;
 
 /// Of each ordered pair of steps the rows between two heads from which the leads share a row.
 ///
-/// It is seen as the stage, the sets, and of each step whether it has a row twice.
+/// It is seen as the stage, the sets, and of each step whether it has a row twice. It takes 16 to 20 bytes for each
+/// row of its sets: with 4,000,000 rows in one set 65 MB, and in many sets some 72 MB, or 80 MB at most.
 #[derive(Drop)]
 pub struct FalseTable {
     stage: Stage,

@@ -1,5 +1,5 @@
 pub mod Latest
 pub mod Linked
-pub mod ReadRows
+pub mod Known
 pub mod Held
 pub mod Answered

@@ -1,3 +1,4 @@
 pub mod Stacks
+pub mod Keys
 pub mod Chains
 pub mod Pushing

@@ -1,6 +1,7 @@
 //! A stack of different rows, which tells at once whether a row stands in it.
 #![tactic(auto)]
 
+mod keys;
 mod laws;
 mod pushed;
 mod stack;

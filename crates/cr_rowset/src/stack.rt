@@ -1,12 +1,13 @@
-//! The rows of a stack, in chains by their keys.
+//! The rows of a stack, by their keys, in chains.
 
 ghost use Rattle.std.specs.Prelude.{◌≡◌, ◌≢◌, ℕ, ◌<◌, ◌≤◌, List, [], length, take, get_or, replicate, Contains, IfOk, IfSome, IsNone};
 ghost use Rattle.cr_rowset.specs.Stacks.{AllDiffer};
 ghost use Rattle.cr_rowset.specs.Chains.{bucket, bucket_count, IsChained, Seeks};
 ghost use Rattle.cr_rowset.specs.Pushing.{Pushes, StandsAt};
 
+use crate::keys::{key_of, row_of};
 use crate::pushed::Pushed;
-use cr_row::{NoMemory, Row, Stage};
+use cr_row::{NoMemory, Row};
 use std::alloc::Global;
 use std::marker::Model;
 
@@ -19,11 +20,12 @@ const SPREAD: u64 = 0x9E37_79B9_7F4A_7C15;
 /// A stack of different rows, with a room that never changes.
 ///
 /// It is seen as the list of its rows, the first pushed first, and its room. A push looks at the rows
-/// of one bucket alone, and a cut takes constant time for each row that goes.
+/// of one bucket alone, and a cut takes constant time for each row that goes. Of memory it takes 12 bytes
+/// a row and 4 a bucket, with as many buckets as rows, or up to twice as many: 16 to 20 bytes a row.
 #[derive(Drop)]
 pub struct RowStack {
-    // The rows of the stack are the first ones.
-    rows: Vec<Row>,
+    // The rows of the stack have the first ones.
+    keys: Vec<u64>,
     // Of each bucket one more than the place of its last row, or 0.
     buckets: Vec<u32>,
     // Of each place what the bucket of its row had before.
@@ -34,15 +36,16 @@ pub struct RowStack {
 }
 
 impl Model for RowStack {
-    ghost use Rattle.std.specs.Prelude.{length, take};
+    ghost use Rattle.std.specs.Prelude.{length, map, take};
     ghost use Rattle.cr_rowset.specs.Stacks.{StackParts};
+    ghost use Rattle.cr_rowset.specs.Keys.{row_of};
     ghost use Rattle.cr_rowset.specs.Chains.{IsStack};
 
     ghost Value = { StackParts };
 
-    ghost view = { λ s. record { rows = take s.len s.rows.items; room = length s.rows.items } };
+    ghost view = { λ s. record { rows = take s.len (map row_of s.keys.items); room = length s.keys.items } };
 
-    ghost invariant = { λ s. IsStack s.shift s.buckets.items s.before.items s.rows.items s.len };
+    ghost invariant = { λ s. IsStack s.shift s.buckets.items s.before.items s.keys.items s.len };
 }
 
 impl RowStack {
@@ -58,9 +61,9 @@ impl RowStack {
         let places = room as usize;
         let buckets = Vec::from_elem(alloc, 0, bucket_number(shift))?;
         let before = Vec::from_elem(alloc, 0, places)?;
-        let rows = Vec::from_elem(alloc, any_row(), places)?;
+        let keys = Vec::from_elem(alloc, 0, places)?;
         Ok(RowStack {
-            rows,
+            keys,
             buckets,
             before,
             len: 0,
@@ -82,7 +85,7 @@ impl RowStack {
         requires { place < length self.now.rows }
         ensures { result ≡ get_or self.now.rows place [] }
     {
-        self.rows[place as usize]
+        row_of(self.keys[place as usize])
     }
 
     /// The place of a row, counted from 0. None where it stands nowhere in the stack.
@@ -90,8 +93,9 @@ impl RowStack {
         ensures some { IfSome result (λ place. StandsAt self.now.rows row.now place) }
         ensures none { IsNone result → Contains self.now.rows row.now → ⊥ }
     {
-        let last = self.buckets[bucket_of(row, self.shift)];
-        place_of(&self.rows, &self.before, self.len, last, row)
+        let key = key_of(row);
+        let last = self.buckets[bucket_of(key, self.shift)];
+        place_of(&self.keys, &self.before, self.len, last, key)
     }
 
     /// Puts a row last, unless it stands in the stack already or there is no room for it.
@@ -99,15 +103,16 @@ impl RowStack {
         ensures { Pushes self.old row result self.new }
     {
         let len = self.len;
-        let bucket = bucket_of(&row, self.shift);
+        let key = key_of(&row);
+        let bucket = bucket_of(key, self.shift);
         let last = self.buckets[bucket];
-        if let Some(place) = place_of(&self.rows, &self.before, len, last, &row) {
+        if let Some(place) = place_of(&self.keys, &self.before, len, last, key) {
             return Pushed::Again(place);
         }
-        if len == self.rows.len() {
+        if len == self.keys.len() {
             return Pushed::Full;
         }
-        self.rows[len] = row;
+        self.keys[len] = key;
         self.before[len] = last;
         self.buckets[bucket] = len as u32 + 1;
         self.len = len + 1;
@@ -124,7 +129,7 @@ impl RowStack {
         unlink(
             &mut self.buckets,
             &self.before,
-            &self.rows,
+            &self.keys,
             self.shift,
             self.len,
             left,
@@ -133,20 +138,13 @@ impl RowStack {
     }
 }
 
-// What fills places that no row has taken yet.
-fn any_row() -> Row {
-    match Stage::new(3) {
-        Some(stage) => Row::rounds(stage),
-        None => unreachable!(),
-    }
-}
-
-// By how many bits a hash is moved down: so that there are twice as many buckets as rows, or more.
+// By how many bits a hash is moved down: so that there are as many buckets as rows, or more, but 16 or fewer
+// than twice as many.
 fn shift_for(room: u64) -> u32
     ensures { (1 ≤ result) × (result < 64) }
 {
     let mut shift = 60;
-    while shift > 30 && (1u64 << (64 - shift)) / 2 < room {
+    while shift > 30 && (1u64 << (64 - shift)) < room {
         shift -= 1;
     }
     shift
@@ -161,30 +159,30 @@ fn bucket_number(shift: u32) -> usize
     1 << (64 - shift)
 }
 
-// The bucket of a row.
+// The bucket of a key.
 #[inline(always)]
 #[tactic(auto, using(crate::proofs::Linked::hash_below), unfolding(crate::specs::Chains::bucket, crate::specs::Chains::bucket_count))]
-fn bucket_of(row: &Row, shift: u32) -> usize
+fn bucket_of(key: u64, shift: u32) -> usize
     requires { shift < 64 }
-    ensures is { result ≡ bucket shift row.now }
+    ensures is { result ≡ bucket shift key }
     ensures within { result < bucket_count shift }
 {
-    (row.key().wrapping_mul(SPREAD) >> shift) as usize
+    (key.wrapping_mul(SPREAD) >> shift) as usize
 }
 
-// The place of a row among the first ones, by the chain that begins at the place before the mark.
-fn place_of(rows: &[Row], before: &[u32], len: usize, mark: u32, row: &Row) -> Option<u64>
-    requires chain { Seeks rows.now before.now len mark row.now }
-    requires rows { len ≤ length rows.now }
+// The place of a key among the first ones, by the chain that begins at the place before the mark.
+fn place_of(keys: &[u64], before: &[u32], len: usize, mark: u32, key: u64) -> Option<u64>
+    requires chain { Seeks keys.now before.now len mark key }
+    requires keys { len ≤ length keys.now }
     requires before { len ≤ length before.now }
     ensures within { IfSome result (λ place. place < len) }
-    ensures is { IfSome result (λ place. get_or rows.now place [] ≡ row.now) }
-    ensures none { IsNone result → (i : ℕ) → i < len → get_or rows.now i [] ≢ row.now }
+    ensures is { IfSome result (λ place. get_or keys.now place 0 ≡ key) }
+    ensures none { IsNone result → (i : ℕ) → i < len → get_or keys.now i 0 ≢ key }
 {
     let mut mark = mark;
     while mark > 0 {
         let place = (mark - 1) as usize;
-        if rows[place] == *row {
+        if keys[place] == key {
             return Some(place as u64);
         }
         mark = before[place];
@@ -192,20 +190,20 @@ fn place_of(rows: &[Row], before: &[u32], len: usize, mark: u32, row: &Row) -> O
     None
 }
 
-// Gives the buckets back what they had before the rows from this place on.
-fn unlink(buckets: &mut [u32], before: &[u32], rows: &[Row], shift: u32, len: usize, left: usize)
+// Gives the buckets back what they had before the keys from this place on.
+fn unlink(buckets: &mut [u32], before: &[u32], keys: &[u64], shift: u32, len: usize, left: usize)
     requires bits { shift < 64 }
-    requires chained { IsChained shift buckets.old before.now rows.now len }
+    requires chained { IsChained shift buckets.old before.now keys.now len }
     requires buckets { length buckets.old ≡ bucket_count shift }
-    requires rows { len ≤ length rows.now }
+    requires keys { len ≤ length keys.now }
     requires before { len ≤ length before.now }
     requires left { left ≤ len }
-    ensures chained { IsChained shift buckets.new before.now rows.now left }
+    ensures chained { IsChained shift buckets.new before.now keys.now left }
     ensures same_length { length buckets.new ≡ length buckets.old }
 {
     let mut place = len;
     while place > left {
         place -= 1;
-        buckets[bucket_of(&rows[place], shift)] = before[place];
+        buckets[bucket_of(keys[place], shift)] = before[place];
     }
 }
