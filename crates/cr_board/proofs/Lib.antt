@@ -20,3 +20,4 @@ pub mod Stale
 pub mod Appending
 pub mod Entries
 pub mod Resigning
+pub mod Tickets

@@ -61,3 +61,35 @@ module _ (among : AmongOthers) (p : ProblemParts) (found nodes now job more rest
     valid = λ k d inside. (split_of_all.rest_valid k d inside).0;
     size = omega (arith, part.size, sizes, sum_by-append (size p most_rows) others job, sum_by-append (size p most_rows) others rest);
   }
+
+-- found touches and nodes are a partition of themselves
+pub begun : (p : ProblemParts) (found nodes : List (List ℕ)) → All (Kept p) found → All (IsValid p) nodes → Independent p found nodes
+    → IsPartition p found nodes found nodes 0
+begun p found nodes kept valid apart = record { each = λ calling is. refl; kept = kept; independent = apart; valid = valid; size = omega arith }
+
+module _ (p : ProblemParts) (found nodes now left more rest : List (List ℕ)) (spent used : ℕ)
+    (part : IsPartition p found nodes now left spent) (later : IsPartition p [] left more rest used) where
+  -- no node that is left is above what either found
+  all_apart : (i j : ℕ) → i < length rest → j < length (now ++ more) → is_above p (get_or rest i []) (get_or (now ++ more) j []) ≡ false
+  all_apart i j inside within = elim (cases_lt j (length now)) [
+    | inl first ↦
+        let none = none_above_found p now left part.independent j first in
+        let each = later.each (get_or now j []) (part.kept j [] first) in
+        ap (λ calling. is_above p (get_or rest i []) calling) (get_or_append_left now more [] j first)
+        ∙ none_passes (λ node. is_above p node (get_or now j [])) rest [] (omega (arith, none, each)) i inside
+    | inr after ↦
+        ap (λ calling. is_above p (get_or rest i []) calling) (get_or-append_right now more (length now) j [] refl after)
+        ∙ later.independent.found_apart i (j - length now) inside (omega (arith, length-append now more))
+  ]
+
+  -- a search of what was left goes on
+  pub onward : IsPartition p found nodes (now ++ more) rest (spent + used)
+  onward = record {
+    each = λ calling kept.
+        let times : times_found (now ++ more) calling ≡ times_found now calling + times_found more calling = sum_by-append (λ c. cond (bytes_eq calling c) 1 0) now more in
+        omega (arith, part.each calling kept, later.each calling kept, times);
+    kept = All-append (Kept p) now more part.kept later.kept;
+    independent = record { nodes_apart = later.independent.nodes_apart; found_apart = all_apart };
+    valid = later.valid;
+    size = omega (arith, part.size, later.size);
+  }

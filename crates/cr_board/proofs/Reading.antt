@@ -1,13 +1,13 @@
 -- Items read by an index, as clauses say them.
-use Rattle.std.proofs.Common.{◌≡◌, ℕ, zero, suc, ◌+◌, ◌-◌, ◌<◌, ◌≤◌, true, false, List, [], ◌∷◌, ◌++◌, length, get_or, set, map, take, replicate, vec_len, refl, sym, ap, ap₂, ◌∙◌, subst, arith}
+use Rattle.std.proofs.Common.{◌≡◌, ℕ, zero, suc, ◌+◌, ◌-◌, ◌<◌, ◌≤◌, true, false, List, [], ◌∷◌, ◌++◌, length, get_or, set, map, take, replicate, reverse, vec_len, refl, sym, ap, ap₂, ◌∙◌, subst, arith}
 use Rattle.std.specs.Prelude.{◌==◌}
 use Rattle.std.specs.Global.{Vec}
 use Rattle.std.proofs.lemmas.Bool.{lt-ltb, le-ltb, ltb-true, eqb-true, eqb-false}
-use Rattle.std.proofs.lemmas.List.{get_or_default, get_or-map, map-append, take_more, replicate_more, get_or-set_same, append_assoc}
+use Rattle.std.proofs.lemmas.List.{get_or_default, get_or-map, map-append, take_more, replicate_more, get_or-set_same, append_assoc, reverse-append, reverse-reverse}
 use Rattle.cr_board.specs.Jobs.{JobParts, numbered}
 use Rattle.cr_board.specs.Boards.{lane_at}
 use Rattle.cr_board.specs.Choices.{is_busy}
-use Rattle.cr_board.specs.Rooms.{jobs_on}
+use Rattle.cr_board.specs.Rooms.{jobs_on, nodes_on}
 
 -- an item that was read, at any default
 pub read_at : {X : Type 0} (xs : List X) (i : ℕ) (x d : X) → i < length xs → x ≡ get_or xs i x → get_or xs i d ≡ x
@@ -84,3 +84,20 @@ two_put lanes once worker first second inside is =
 -- a busy lane has a job
 pub busy_some : (lanes : List (List JobParts)) (i : ℕ) → is_busy lanes i ≡ true → 1 ≤ length (lane_at lanes i)
 busy_some lanes i busy = ltb-true 0 (length (lane_at lanes i)) busy
+
+-- jobs turned round
+nodes_turned : (jobs : List (Vec (List ℕ))) → nodes_on (reverse jobs) ≡ reverse (nodes_on jobs)
+nodes_turned [] = refl
+nodes_turned (job ∷ jobs) =
+    ap nodes_on (reverse-append (job ∷ []) jobs) ∙ map-append (λ j. j.items) (reverse jobs) (job ∷ [])
+    ∙ ap (λ l. l ++ job.items ∷ []) (nodes_turned jobs) ∙ sym (reverse-append (job.items ∷ []) (nodes_on jobs))
+
+-- jobs that were put one after another from the last on, and then turned round
+pub moved_back : (jobs turned : List (Vec (List ℕ))) (first second : List JobParts)
+    → nodes_on jobs ≡ reverse (map (λ job. job.nodes) second) ++ reverse (map (λ job. job.nodes) first) → turned ≡ reverse jobs
+    → nodes_on turned ≡ map (λ job. job.nodes) (first ++ second)
+moved_back jobs turned first second is turn =
+    ap nodes_on turn ∙ nodes_turned jobs ∙ ap reverse is
+    ∙ reverse-append (reverse (map (λ job. job.nodes) second)) (reverse (map (λ job. job.nodes) first))
+    ∙ ap₂ ◌++◌ (reverse-reverse (map (λ job. job.nodes) first)) (reverse-reverse (map (λ job. job.nodes) second))
+    ∙ sym (map-append (λ job. job.nodes) first second)

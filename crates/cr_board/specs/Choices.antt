@@ -131,6 +131,22 @@ UnlessClaimed claimed.Spent P = P
 UnlessClaimed claimed.Stale P = P
 UnlessClaimed (claimed.Job ticket) P = ⊤
 
+-- what holds of the job of an answer
+abbrev pub IfJob : Taken → (TicketParts → Type 0) → Type 0
+IfJob taken.Stranger P = ⊤
+IfJob (taken.Holding number) P = ⊤
+IfJob taken.Spent P = ⊤
+IfJob (taken.Job ticket) P = P ticket
+IfJob (taken.Wait worker) P = ⊤
+IfJob taken.Empty P = ⊤
+
+abbrev pub IfClaimed : Claimed → (TicketParts → Type 0) → Type 0
+IfClaimed claimed.Stranger P = ⊤
+IfClaimed (claimed.Holding number) P = ⊤
+IfClaimed claimed.Spent P = ⊤
+IfClaimed claimed.Stale P = ⊤
+IfClaimed (claimed.Job ticket) P = P ticket
+
 -- how many entries the journal gets by an answer
 abbrev pub entries_taken : Taken → ℕ
 entries_taken taken.Stranger = 0

@@ -15,6 +15,10 @@ use Rattle.cr_node.specs.Work.{Work}
 abbrev pub jobs_on : List (Vec JobParts) → List (List JobParts)
 jobs_on lanes = map (λ lane. lane.items) lanes
 
+-- the nodes of each of some jobs
+abbrev pub nodes_on : List (Vec (List ℕ)) → List (List (List ℕ))
+nodes_on jobs = map (λ job. job.items) jobs
+
 -- a lane has room for so many jobs more
 abbrev pub HasRoom : List (Vec JobParts) → ℕ → ℕ → Type 0
 HasRoom lanes lane more = (d : Vec JobParts) → vec_len (get_or lanes lane d) + more ≤ vec_capacity (get_or lanes lane d)

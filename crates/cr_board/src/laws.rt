@@ -1,14 +1,16 @@
 //! Laws of boards. Each is the contract of a function that does nothing.
 
-ghost use Rattle.std.specs.Prelude.{◌≡◌, ℕ, ◌+◌, ◌≤◌, ◌++◌, ◌↔◌, List, [], ◌∷◌, Some, None, length, map, flat_map, sum_by, Contains};
-ghost use Rattle.cr_model.specs.Nodes.{Covers};
+ghost use Rattle.std.specs.Prelude.{◌≡◌, ℕ, ◌+◌, ◌≤◌, ◌++◌, ◌↔◌, List, [], ◌∷◌, Some, None, length, map, flat_map, sum_by, All, Contains};
+ghost use Rattle.cr_model.specs.Problems.{ProblemParts};
+ghost use Rattle.cr_model.specs.Touches.{Kept};
+ghost use Rattle.cr_model.specs.Nodes.{IsValid, Independent, Covers};
 ghost use Rattle.cr_model.specs.Sizes.{most_rows, size_of_all};
-ghost use Rattle.cr_node.specs.Work.{Work};
+ghost use Rattle.cr_node.specs.Work.{Work, IsJob};
 ghost use Rattle.cr_board.specs.Jobs.{OpeningParts, IsOpening, opening_nodes};
 ghost use Rattle.cr_board.specs.Boards.{BoardParts, opened, lane_at, held_at, held_jobs, jobs_of, nodes_of};
 ghost use Rattle.cr_board.specs.Halls.{IsReplayed, IsAllowed, AreAllowed, start, replay, times_in, grant_of, granted, numbers_of, backs};
-ghost use Rattle.cr_board.specs.Partitions.{HasShape, Partition};
-ghost use Rattle.cr_board.specs.Choices.{round, next_answer, claim_place, claim_answer, entries_taken, entries_claimed};
+ghost use Rattle.cr_board.specs.Partitions.{HasShape, IsPartition, Partition};
+ghost use Rattle.cr_board.specs.Choices.{round, next_answer, claim_place, claim_answer, entries_taken, entries_claimed, IfJob, IfClaimed};
 ghost use Rattle.cr_board.specs.Moves.{halves, after_next, after_claim, handed_in, after_resigning, after_recall};
 ghost use Rattle.cr_board.specs.Steps.{EventStep, Ran};
 ghost use Rattle.cr_board.specs.Examples.{two_jobs, script};
@@ -85,6 +87,29 @@ pub fn journals_grow_by_their_entries()
     ensures recalled { (b : BoardParts) → HasShape b
         → length (after_recall b).journal ≡ length b.journal + length (flat_map held_jobs b.held) }
 {}
+
+/// The nodes of a ticket are a job, whether the worker was given it or claimed it.
+pub fn a_ticket_has_a_job()
+    ensures next { (b : BoardParts) (worker : ℕ) → Partition b
+        → IfJob (next_answer b worker) (λ ticket. IsJob b.opening.problem ticket.nodes) }
+    ensures claimed { (b : BoardParts) (worker number : ℕ) → Partition b
+        → IfClaimed (claim_answer b worker number) (λ ticket. IsJob b.opening.problem ticket.nodes) }
+{}
+
+/// Found touches and nodes are a partition of themselves. Where a search of the nodes that were left begins with no found
+/// touch, what it finds goes behind what was found before, and that is a partition of what the first began with. Both
+/// cover the same.
+pub fn partitions_follow_one_another()
+    ensures begun { (p : ProblemParts) (found nodes : List (List ℕ)) → All (Kept p) found → All (IsValid p) nodes
+        → Independent p found nodes → IsPartition p found nodes found nodes 0 }
+    ensures onward { (p : ProblemParts) (found nodes now left more rest : List (List ℕ)) (spent used : ℕ)
+        → IsPartition p found nodes now left spent → IsPartition p [] left more rest used
+        → IsPartition p found nodes (now ++ more) rest (spent + used) }
+    ensures covers { (p : ProblemParts) (found nodes now left : List (List ℕ)) (spent : ℕ) (calling : List ℕ)
+        → IsPartition p found nodes now left spent → Covers p now left calling ↔ Covers p found nodes calling }
+{
+    covers_are_counted();
+}
 
 /// Where a worker is answered that all is empty, no job is left.
 pub fn an_empty_board_is_done()

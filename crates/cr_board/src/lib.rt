@@ -13,6 +13,7 @@ mod lanes;
 pub mod laws;
 mod opened;
 mod opening;
+mod parts;
 mod place;
 mod places;
 mod playing;
@@ -30,6 +31,7 @@ pub use event::Event;
 pub use handed::Handed;
 pub use job::{LaneJob, Ticket};
 pub use opening::Opening;
+pub use parts::Parts;
 pub use taken::{Claimed, Taken};
 
 #[cfg(test)]

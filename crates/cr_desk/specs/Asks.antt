@@ -7,7 +7,6 @@ use Rattle.cr_board.specs.Boards.{BoardParts}
 use Rattle.cr_board.specs.Choices.{next_answer}
 use Rattle.cr_board.specs.Moves.{after_next}
 use Rattle.cr_board.specs.declared.taken.Taken.{Taken}
-use Rattle.cr_board.specs.declared.taken.Taken.TheVariants as taken
 use Rattle.cr_desk.specs.declared.duty.Duty.{Duty}
 use Rattle.cr_desk.specs.declared.duty.Duty.TheVariants as duty
 
@@ -17,15 +16,6 @@ abbrev pub Asks : BoardParts → ProblemParts → ℕ → Result (Option Taken) 
 Asks b p worker (Ok None) after = (b.opening.problem ≢ p) × (after ≡ b)
 Asks b p worker (Ok (Some answer)) after = (b.opening.problem ≡ p) × (answer ≡ next_answer b worker) × (after ≡ after_next b worker)
 Asks b p worker (Err e) after = after ≡ b
-
--- what holds of the job of an answer
-abbrev pub IfJob : Taken → (TicketParts → Type 0) → Type 0
-IfJob taken.Stranger P = ⊤
-IfJob (taken.Holding number) P = ⊤
-IfJob taken.Spent P = ⊤
-IfJob (taken.Job ticket) P = P ticket
-IfJob (taken.Wait worker) P = ⊤
-IfJob taken.Empty P = ⊤
 
 -- what holds of the job that is to be explored
 abbrev pub IfExplore : Duty → (TicketParts → Type 0) → Type 0

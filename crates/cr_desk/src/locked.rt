@@ -2,11 +2,11 @@
 
 ghost use Rattle.std.specs.Prelude.{◌≡◌, ◌+◌, ◌<◌, cond, nat_lt, length, IfOk, IfSome, OnOk, OnErr};
 ghost use Rattle.cr_node.specs.Work.{IsJob};
-ghost use Rattle.cr_board.specs.Choices.{next_answer};
+ghost use Rattle.cr_board.specs.Choices.{next_answer, IfJob};
 ghost use Rattle.cr_board.specs.Moves.{HandsIn, after_next, after_resigning};
-ghost use Rattle.cr_desk.specs.Asks.{Asks, IfJob};
+ghost use Rattle.cr_desk.specs.Asks.{Asks};
 
-use cr_board::laws::journals_grow_by_their_entries;
+use cr_board::laws::{a_ticket_has_a_job, journals_grow_by_their_entries};
 use cr_board::{Board, Handed, Taken};
 use cr_model::Problem;
 use cr_node::Done;
@@ -61,11 +61,10 @@ impl<L: Ledger> Locked<L> {
         ensures parts { mine.new.parts ≡ mine.old.parts }
         ensures counted { mine.new.amount + length self.old.board.journal ≡ mine.old.amount + length self.new.board.journal }
     {
+        a_ticket_has_a_job();
         journals_grow_by_their_entries();
-        // The facts of the board before and after show that a ticket has a job.
         let _ = self.board.journal();
         let taken = self.board.next_job(alloc, worker)?;
-        let _ = self.board.journal();
         if let Taken::Job(_) = &taken {
             self.book.add(mine, 1);
         }

@@ -1,4 +1,4 @@
--- What a board leaves: a search can go on from it, and it covers the same as the board.
+-- What a search found and left: once it is sorted a search can go on from it, and it covers the same.
 use Rattle.std.proofs.Common.{◌≡◌, ℕ, zero, suc, ◌+◌, ◌<◌, ◌≤◌, ◌⊎◌, ◌↔◌, true, false, nat_eq, List, [], ◌∷◌, ◌++◌, length, get_or, map, All, Contains, inl, inr, refl, sym, ap, ◌∙◌, subst, arith}
 use Rattle.std.specs.Cmp.Lexicographic.{pointwise}
 use Rattle.std.specs.List.Sorted.{IsPermutation, IsSorted, IsStrictlySortedBy}
@@ -8,83 +8,108 @@ use Rattle.std.proofs.lemmas.List.Sorted.{IsPermutation-sym, All-permutation, Co
 use Rattle.std.proofs.lemmas.Slice.Eq.{bytes_eq-Decides}
 use Rattle.cr_model.specs.Problems.{ProblemParts}
 use Rattle.cr_model.specs.Touches.{Kept}
-use Rattle.cr_model.specs.Nodes.{is_above, IsValid, times_found, Covers, Independent}
+use Rattle.cr_model.specs.Nodes.{is_above, times_found, Covers, Independent}
 use Rattle.cr_model.specs.Books.{book_order}
-use Rattle.cr_model.specs.Sizes.{most_rows, size_of_all}
 use Rattle.cr_model.specs.Checkpoints.{CanGoOn, nodes_of_jobs}
 use Rattle.cr_board.specs.Jobs.{JobParts, opening_nodes}
 use Rattle.cr_board.specs.Boards.{BoardParts, jobs_of, nodes_in, nodes_of}
-use Rattle.cr_board.specs.Partitions.{IsKept}
+use Rattle.cr_board.specs.Partitions.{IsPartition, IsKept}
+use Rattle.cr_store.specs.Searches.{WentOn}
 use Rattle.cr_store.specs.Written.{board_jobs}
 use Rattle.cr_store.proofs.Accepting.{apart_in_order}
 use Rattle.cr_store.proofs.Once.{once, some_passes}
-
--- the nodes of jobs
-nodes_are : (jobs : List JobParts) → nodes_of_jobs (map (λ job. job.nodes) jobs) ≡ nodes_in jobs
-nodes_are [] = refl
-nodes_are (job ∷ jobs) = ap (λ l. job.nodes ++ l) (nodes_are jobs)
 
 -- what the law on sorted touches says
 abbrev Strict : Type 0
 Strict = (p : ProblemParts) (callings sorted : List (List ℕ)) → IsPermutation callings sorted → IsSorted (book_order p) sorted
     → ((calling : List ℕ) → times_found callings calling ≤ 1) → IsStrictlySortedBy (book_order p) sorted
 
-module _ (b : BoardParts) (kept : IsKept b) where
+module _ (p : ProblemParts) (before : List (List ℕ)) (begun : List (List (List ℕ))) (now : List (List ℕ)) (left : List (List (List ℕ))) (spent : ℕ)
+    (way : WentOn p before begun now left spent) where
   -- nothing was found twice
-  found_once : (calling : List ℕ) → times_found b.found calling ≤ 1
-  found_once calling = by (times_found b.found calling) refl
+  found_once : (calling : List ℕ) → times_found now calling ≤ 1
+  found_once calling = by (times_found now calling) refl
     where
-      one : Kept b.opening.problem calling → times_found b.found calling ≤ 1
+      one : Kept p calling → times_found now calling ≤ 1
       one is =
-          let o = b.opening in
-          let part = kept.partition.nodes.each calling is in
-          let few = once o.problem o.found (opening_nodes o) (apart_in_order o.problem o.found kept.opening.ascending) kept.opening.independent calling in
+          let part = way.nodes.each calling is in
+          let few = once p before (nodes_of_jobs begun) (apart_in_order p before way.began.ascending) way.began.independent calling in
           omega (arith, part, few)
 
-      by : (n : ℕ) → times_found b.found calling ≡ n → times_found b.found calling ≤ 1
+      by : (n : ℕ) → times_found now calling ≡ n → times_found now calling ≤ 1
       by zero none = omega arith
       by (suc n) some =
-          let (j, inside, same) = some_passes (pointwise nat_eq calling) b.found [] (omega arith) in
-          one (subst (Kept b.opening.problem) (sym ((bytes_eq-Decides calling (get_or b.found j [])).0 same)) (kept.partition.nodes.kept j [] inside))
+          let (j, inside, same) = some_passes (pointwise nat_eq calling) now [] (omega arith) in
+          one (subst (Kept p) (sym ((bytes_eq-Decides calling (get_or now j [])).0 same)) (way.nodes.kept j [] inside))
 
-  module _ (found : List (List ℕ)) (same : IsPermutation b.found found) where
+  module _ (found : List (List ℕ)) (same : IsPermutation now found) where
     -- no node is above a found touch, in whatever order they stand
-    still_apart : Independent b.opening.problem found (nodes_of b)
+    still_apart : Independent p found (nodes_of_jobs left)
     still_apart =
-        let apart = kept.partition.nodes.independent in
-        let none = All-permutation (λ calling. (i : ℕ) → i < length (nodes_of b) → is_above b.opening.problem (get_or (nodes_of b) i []) calling ≡ false) b.found found same
-        (λ k d inside i within. subst (λ calling. is_above b.opening.problem (get_or (nodes_of b) i []) calling ≡ false) (get_or_default b.found k [] d inside) (apart.found_apart i k within inside)) in
+        let apart = way.nodes.independent in
+        let none = All-permutation (λ calling. (i : ℕ) → i < length (nodes_of_jobs left) → is_above p (get_or (nodes_of_jobs left) i []) calling ≡ false) now found same
+        (λ k d inside i within. subst (λ calling. is_above p (get_or (nodes_of_jobs left) i []) calling ≡ false) (get_or_default now k [] d inside) (apart.found_apart i k within inside)) in
         record { nodes_apart = apart.nodes_apart; found_apart = λ i j inside within. none j [] within i inside }
 
-    pub left_goes_on : Strict → IsSorted (book_order b.opening.problem) found → CanGoOn b.opening.problem found (board_jobs b)
+    pub left_goes_on : Strict → IsSorted (book_order p) found → CanGoOn p found left
     left_goes_on strict up = record {
-      kept = All-permutation (Kept b.opening.problem) b.found found same kept.partition.nodes.kept;
-      ascending = strict b.opening.problem b.found found same up found_once;
-      filled = All-map (λ job. 0 < length job) (λ job. job.nodes) (jobs_of b) kept.partition.filled;
-      valid = subst (All (IsValid b.opening.problem)) (sym (nodes_are (jobs_of b))) kept.partition.nodes.valid;
-      independent = subst (Independent b.opening.problem found) (sym (nodes_are (jobs_of b))) still_apart;
+      kept = All-permutation (Kept p) now found same way.nodes.kept;
+      ascending = strict p now found same up found_once;
+      filled = way.filled;
+      valid = way.nodes.valid;
+      independent = still_apart;
     }
 
-    -- the same is covered
-    covers_on : (calling : List ℕ) → Covers b.opening.problem b.found (nodes_of b) calling → Covers b.opening.problem found (nodes_of_jobs (board_jobs b)) calling
-    covers_on calling covers = record { kept = covers.kept; reached = by covers.reached }
-      where
-        by : Contains b.found calling ⊎ ((node : List ℕ) × Contains (nodes_of b) node × (is_above b.opening.problem node calling ≡ true))
-            → Contains found calling ⊎ ((node : List ℕ) × Contains (nodes_of_jobs (board_jobs b)) node × (is_above b.opening.problem node calling ≡ true))
-        by (inl held) = inl (Contains-permutation b.found found calling same held)
-        by (inr below) = inr (below.0, subst (λ ns. Contains ns below.0) (sym (nodes_are (jobs_of b))) below.1, below.2)
+-- the same touches in another order cover the same
+moved_covers : (p : ProblemParts) (now found nodes : List (List ℕ)) (calling : List ℕ) → IsPermutation now found → Covers p now nodes calling → Covers p found nodes calling
+moved_covers p now found nodes calling same covers = record { kept = covers.kept; reached = by covers.reached }
+  where
+    by : Contains now calling ⊎ ((node : List ℕ) × Contains nodes node × (is_above p node calling ≡ true))
+        → Contains found calling ⊎ ((node : List ℕ) × Contains nodes node × (is_above p node calling ≡ true))
+    by (inl held) = inl (Contains-permutation now found calling same held)
+    by (inr below) = inr below
 
-    covers_back : (calling : List ℕ) → Covers b.opening.problem found (nodes_of_jobs (board_jobs b)) calling → Covers b.opening.problem b.found (nodes_of b) calling
-    covers_back calling covers = record { kept = covers.kept; reached = by covers.reached }
-      where
-        by : Contains found calling ⊎ ((node : List ℕ) × Contains (nodes_of_jobs (board_jobs b)) node × (is_above b.opening.problem node calling ≡ true))
-            → Contains b.found calling ⊎ ((node : List ℕ) × Contains (nodes_of b) node × (is_above b.opening.problem node calling ≡ true))
-        by (inl held) = inl (Contains-permutation found b.found calling (IsPermutation-sym b.found found same) held)
-        by (inr below) = inr (below.0, subst (λ ns. Contains ns below.0) (nodes_are (jobs_of b)) below.1, below.2)
+-- what the law on partitions says of covers
+abbrev CoverTheSame : Type 0
+CoverTheSame = (p : ProblemParts) (found nodes now left : List (List ℕ)) (spent : ℕ) (calling : List ℕ)
+    → IsPartition p found nodes now left spent → Covers p now left calling ↔ Covers p found nodes calling
 
-    pub left_covers : (calling : List ℕ) → Covers b.opening.problem b.found (nodes_of b) calling ↔ Covers b.opening.problem b.opening.found (opening_nodes b.opening) calling
-        → Covers b.opening.problem found (nodes_of_jobs (board_jobs b)) calling ↔ Covers b.opening.problem b.opening.found (opening_nodes b.opening) calling
-    left_covers calling law = (λ h. law.0 (covers_back calling h), λ h. covers_on calling (law.1 h))
+pub left_covers : CoverTheSame → (p : ProblemParts) (before : List (List ℕ)) (begun : List (List (List ℕ))) (now : List (List ℕ)) (left : List (List (List ℕ))) (spent : ℕ)
+    (found : List (List ℕ)) → IsPermutation now found → WentOn p before begun now left spent → (calling : List ℕ)
+    → Covers p found (nodes_of_jobs left) calling ↔ Covers p before (nodes_of_jobs begun) calling
+left_covers law p before begun now left spent found same way calling =
+    let all = law p before (nodes_of_jobs begun) now (nodes_of_jobs left) spent calling way.nodes in (
+      λ h. all.0 (moved_covers p found now (nodes_of_jobs left) calling (IsPermutation-sym now found same) h),
+      λ h. moved_covers p now found (nodes_of_jobs left) calling same (all.1 h),
+    )
 
-  pub left_size : size_of_all b.opening.problem most_rows (nodes_of_jobs (board_jobs b)) + b.spent ≡ size_of_all b.opening.problem most_rows (opening_nodes b.opening)
-  left_size = ap (λ ns. size_of_all b.opening.problem most_rows ns + b.spent) (nodes_are (jobs_of b)) ∙ kept.partition.nodes.size
+-- the nodes of jobs
+nodes_are : (jobs : List JobParts) → nodes_of_jobs (map (λ job. job.nodes) jobs) ≡ nodes_in jobs
+nodes_are [] = refl
+nodes_are (job ∷ jobs) = ap (λ l. job.nodes ++ l) (nodes_are jobs)
+
+-- what a board found and has left went on from its opening
+pub board_went_on : (b : BoardParts) (found : List (List ℕ)) (left : List (List (List ℕ))) → IsKept b → found ≡ b.found → left ≡ board_jobs b
+    → WentOn b.opening.problem b.opening.found b.opening.jobs found left b.spent
+board_went_on b found left kept found_is left_is =
+    let o = b.opening in
+    subst (λ f. WentOn o.problem o.found o.jobs f left b.spent) (sym found_is) (subst (λ js. WentOn o.problem o.found o.jobs b.found js b.spent) (sym left_is) whole)
+  where
+    whole : WentOn b.opening.problem b.opening.found b.opening.jobs b.found (board_jobs b) b.spent
+    whole = record {
+      began = record {
+        kept = kept.opening.kept;
+        ascending = kept.opening.ascending;
+        filled = kept.opening.filled;
+        valid = kept.opening.valid;
+        independent = kept.opening.independent;
+      };
+      nodes = subst (λ ns. IsPartition b.opening.problem b.opening.found (opening_nodes b.opening) b.found ns b.spent) (sym (nodes_are (jobs_of b))) kept.partition.nodes;
+      filled = All-map (λ job. 0 < length job) (λ job. job.nodes) (jobs_of b) kept.partition.filled;
+    }
+
+-- what holds of a problem by that, where the problem is the board's
+pub of_board : (b : BoardParts) (p : ProblemParts) (found : List (List ℕ)) (left : List (List (List ℕ))) → IsKept b → p ≡ b.opening.problem → found ≡ b.found → left ≡ board_jobs b
+    → (P : ProblemParts → Type 0) → (WentOn p b.opening.found b.opening.jobs found left b.spent → P p) → P b.opening.problem
+of_board b p found left kept same found_is left_is P by =
+    subst P same (by (subst (λ q. WentOn q b.opening.found b.opening.jobs found left b.spent) (sym same) (board_went_on b found left kept found_is left_is)))

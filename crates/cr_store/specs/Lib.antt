@@ -9,3 +9,4 @@ pub mod Progress
 pub mod Chains
 pub mod ShapeStages
 pub mod ShapeSteps
+pub mod Searches

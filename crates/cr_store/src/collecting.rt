@@ -1,20 +1,21 @@
 //! What a board leaves, as lists.
 
-ghost use Rattle.std.specs.Prelude.{◌≡◌, ◌↔◌, ◌+◌, ◌++◌, ℕ, List, [], ◌∷◌, map, flat_map, option_map, IfOk};
-ghost use Rattle.std.specs.List.Sorted.{IsPermutation, IsSorted};
-ghost use Rattle.cr_model.specs.Books.{book_order};
+ghost use Rattle.std.specs.Prelude.{◌≡◌, ◌↔◌, ◌+◌, ◌++◌, ℕ, List, [], ◌∷◌, map, flat_map, option_map, All, IfOk};
+ghost use Rattle.std.specs.List.Sorted.{IsPermutation};
+ghost use Rattle.cr_model.specs.Touches.{Kept};
 ghost use Rattle.cr_model.specs.Nodes.{Covers};
 ghost use Rattle.cr_model.specs.Sizes.{most_rows, size_of_all};
 ghost use Rattle.cr_model.specs.Checkpoints.{CanGoOn, nodes_of_jobs};
 ghost use Rattle.cr_board.specs.Jobs.{opening_nodes};
 ghost use Rattle.cr_board.specs.Boards.{held_jobs};
+ghost use Rattle.cr_store.specs.Searches.{WentOn};
 ghost use Rattle.cr_store.specs.Written.{lists, nodes_held, board_jobs};
 
-use cr_board::laws::a_board_covers_its_opening;
+use cr_board::laws::partitions_follow_one_another;
 use cr_board::{Board, LaneJob};
 use cr_book::laws::what_is_sorted_is_the_book;
 use cr_book::sort_found;
-use cr_model::Calling;
+use cr_model::{Calling, Problem};
 use cr_node::Node;
 use cr_row::NoMemory;
 use std::alloc::Global;
@@ -29,31 +30,58 @@ pub struct Left {
 }
 
 /// What a board leaves: what it found, in the book's order, and the jobs of its lanes, in the order of the workers, and
-/// then those that are held. A search can go on from there, which covers what the board was opened from; each turn that
-/// was spent took one off the size. Err where no memory is left.
-pub fn left_of(alloc: Global, board: &Board) -> Result<Left, NoMemory>
-    ensures jobs { IfOk result (λ left. lists left.jobs.items ≡ board_jobs board.now) }
-    ensures found { IfOk result (λ left. IsPermutation board.now.found left.found.items) }
-    ensures goes_on { IfOk result (λ left. CanGoOn board.now.opening.problem left.found.items (lists left.jobs.items)) }
-    ensures covers { IfOk result (λ left. (calling : List ℕ) → Covers board.now.opening.problem left.found.items (nodes_of_jobs (lists left.jobs.items)) calling ↔ Covers board.now.opening.problem board.now.opening.found (opening_nodes board.now.opening) calling) }
-    ensures size { IfOk result (λ left. size_of_all board.now.opening.problem most_rows (nodes_of_jobs (lists left.jobs.items)) + board.now.spent ≡ size_of_all board.now.opening.problem most_rows (opening_nodes board.now.opening)) }
+/// then those that are held. They are moved out of the board, and not copied. A search can go on from there, which covers
+/// what the board was opened from; each turn that was spent took one off the size. Err where no memory is left.
+pub fn left_of(alloc: Global, board: Board) -> Result<Left, NoMemory>
+    ensures jobs { IfOk result (λ left. lists left.jobs.items ≡ board_jobs board) }
+    ensures found { IfOk result (λ left. IsPermutation board.found left.found.items) }
+    ensures goes_on { IfOk result (λ left. CanGoOn board.opening.problem left.found.items (lists left.jobs.items)) }
+    ensures covers { IfOk result (λ left. (calling : List ℕ) → Covers board.opening.problem left.found.items (nodes_of_jobs (lists left.jobs.items)) calling ↔ Covers board.opening.problem board.opening.found (opening_nodes board.opening) calling) }
+    ensures size { IfOk result (λ left. size_of_all board.opening.problem most_rows (nodes_of_jobs (lists left.jobs.items)) + board.spent ≡ size_of_all board.opening.problem most_rows (opening_nodes board.opening)) }
 {
-    a_board_covers_its_opening();
+    let parts = board.into_parts(alloc)?;
+    let found = parts.found;
+    let jobs = parts.jobs;
+    let left = left_in_order(alloc, parts.opening.problem(), found, jobs)?;
+    Ok(left)
+}
+
+/// What is left of a search that found these touches and has these jobs, with the touches in the book's order. They are
+/// moved, and not copied. Where the search went on from other found touches and jobs, a search can go on from there, and
+/// covers the same. Err where no memory is left.
+pub fn left_in_order(
+    alloc: Global,
+    problem: &Problem,
+    found: Vec<Calling>,
+    jobs: Vec<Vec<Node>>,
+) -> Result<Left, NoMemory>
+    requires { All (Kept problem.now) found.items }
+    ensures jobs { IfOk result (λ left. lists left.jobs.items ≡ lists jobs.items) }
+    ensures found { IfOk result (λ left. IsPermutation found.items left.found.items) }
+    ensures goes_on { IfOk result (λ left. (before : List (List ℕ)) (begun : List (List (List ℕ))) (spent : ℕ)
+        → WentOn problem.now before begun found.items (lists jobs.items) spent
+        → CanGoOn problem.now left.found.items (lists left.jobs.items)) }
+    ensures covers { IfOk result (λ left. (before : List (List ℕ)) (begun : List (List (List ℕ))) (spent : ℕ)
+        → WentOn problem.now before begun found.items (lists jobs.items) spent → (calling : List ℕ)
+        → Covers problem.now left.found.items (nodes_of_jobs (lists left.jobs.items)) calling
+        ↔ Covers problem.now before (nodes_of_jobs begun) calling) }
+{
+    partitions_follow_one_another();
     what_is_sorted_is_the_book();
-    let _ = board.opening();
-    let found = found_of(alloc, board)?;
-    let jobs = jobs_of(alloc, board)?;
+    let found = sort_found(alloc, problem, found)?;
     Ok(Left { found, jobs })
 }
 
-// The touches that a board found, ascending by length and then by calling.
-fn found_of(alloc: Global, board: &Board) -> Result<Vec<Calling>, NoMemory>
-    ensures same { IfOk result (λ found. IsPermutation board.now.found found.items) }
-    ensures ascending { IfOk result (λ found. IsSorted (book_order board.now.opening.problem) found.items) }
+/// The same of a board that is not taken apart, whose touches and nodes are copied.
+pub fn copy_left_of(alloc: Global, board: &Board) -> Result<Left, NoMemory>
+    ensures jobs { IfOk result (λ left. lists left.jobs.items ≡ board_jobs board.now) }
+    ensures found { IfOk result (λ left. IsPermutation board.now.found left.found.items) }
+    ensures goes_on { IfOk result (λ left. CanGoOn board.now.opening.problem left.found.items (lists left.jobs.items)) }
 {
     let found = copy_callings(alloc, board.found())?;
-    let sorted = sort_found(alloc, board.opening().problem(), found)?;
-    Ok(sorted)
+    let jobs = jobs_of(alloc, board)?;
+    let left = left_in_order(alloc, board.opening().problem(), found, jobs)?;
+    Ok(left)
 }
 
 // The jobs of a board: those of the lanes, and then those that are held.

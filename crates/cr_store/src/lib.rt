@@ -19,7 +19,7 @@ mod texts;
 mod writing;
 
 pub use checkpoint::{Checkpoint, read_checkpoint};
-pub use collecting::{Left, left_of};
+pub use collecting::{Left, left_in_order, left_of};
 pub use fault::CheckFault;
 pub use writing::{write_checkpoint, write_parts};
 

@@ -411,5 +411,7 @@ fn boards_are_written(rt: HostRuntime) -> Result<(), Fail> {
     take(alloc, &mut board, 1)?;
     let held = write_checkpoint(alloc, &bytes, &board)?;
     assert!(rt; held.as_slice() == text_of(alloc, "2", "124", DOUBLES, HELD)?.as_slice());
+    let left = left_of(alloc, board)?;
+    assert!(rt; left.found.len() == 1 && left.jobs.len() == 2);
     Ok(())
 }
