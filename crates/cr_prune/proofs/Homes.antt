@@ -1,8 +1,8 @@
 -- Where rounds comes in rows that differ.
-use Rattle.std.proofs.Common.{◌≡◌, ◌≢◌, ℕ, suc, ◌+◌, ◌-◌, ◌<◌, Bool, true, false, ◌&&◌, ◌||◌, nat_lt, nat_eq, List, [], ◌∷◌, length, get_or, take, drop, Contains, refl, sym, ap, ap₂, ◌∙◌, subst, inl, inr, arith, lt-ltb, length-drop}
+use Rattle.std.proofs.Common.{◌≡◌, ◌≢◌, ℕ, suc, ◌+◌, ◌-◌, ◌<◌, Bool, true, false, ◌&&◌, ◌||◌, nat_lt, nat_eq, List, [], ◌∷◌, length, get_or, take, drop, Contains, refl, sym, ap, ap₂, ◌∙◌, inl, inr, arith, lt-ltb, length-drop}
 use Rattle.std.specs.Cmp.Lexicographic.{pointwise}
 use Rattle.std.specs.List.{list_any}
-use Rattle.std.proofs.lemmas.Bool.{cases_eq, cases_lt, false_from_ne_true, le-ltb}
+use Rattle.std.proofs.lemmas.Bool.{cases_lt, false_from_ne_true, le-ltb}
 use Rattle.std.proofs.lemmas.List.{get_or-take, get_or-drop, get_or_default, length-take-le}
 use Rattle.std.proofs.lemmas.List.Folds.{list_any_at}
 use Rattle.std.proofs.lemmas.Slice.Eq.{bytes_eq-Decides}
@@ -11,8 +11,6 @@ use Rattle.cr_model.specs.Problems.{ProblemParts}
 use Rattle.cr_model.specs.Callings.{rows_of, AllDiffer}
 use Rattle.cr_model.specs.Dead.{has_rounds, is_home, parts_of}
 use Rattle.cr_rowset.specs.Pushing.{StandsAt}
-use Rattle.cr_prune.specs.Rung.{AreRows}
-use Rattle.cr_prune.proofs.Leads.{all_fresh, not_fresh}
 
 -- a row is among those where it stands, and not among those where it stands nowhere
 among : (row : List ℕ) (rows : List (List ℕ)) (place : ℕ) → place < length rows → get_or rows place [] ≡ row → list_any (pointwise nat_eq row) rows ≡ true
@@ -56,14 +54,7 @@ and_false : (b : Bool) → (b && false) ≡ false
 and_false true = refl
 and_false false = refl
 
--- rows that differ are all kept
-pub whole : (p : ProblemParts) (node : List ℕ) (rows : List (List ℕ)) (fresh : ℕ) → AreRows p node rows fresh → AllDiffer (rows_of p node) → rows ≡ rows_of p node
-whole p node rows fresh are differ = elim (cases_eq fresh (length node)) [
-  | inl all ↦ all_fresh p node rows fresh are all
-  | inr some ↦ absurd (not_fresh p node rows fresh are (λ all. omega (arith, some, all)) differ)
-]
-
-module _ (p : ProblemParts) (node : List ℕ) (kept : List (List ℕ)) (fresh : ℕ) (several : Bool) (are : AreRows p node kept fresh) (differ : AllDiffer (rows_of p node)) (parts : several ≡ nat_lt 1 (parts_of p)) where
+module _ (p : ProblemParts) (node : List ℕ) (several : Bool) (differ : AllDiffer (rows_of p node)) (parts : several ≡ nat_lt 1 (parts_of p)) where
   -- rounds stands at a place
   home_at : (rows : List (List ℕ)) (place : ℕ) → AllDiffer rows → StandsAt rows (rounds p.stage) place → (several' : Bool) →
       (has_rounds p (take (length rows - 1) rows) || (has_rounds p (drop (length rows - 1) rows) && several')) ≡ (several' || nat_lt (place + 1) (length rows))
@@ -82,17 +73,14 @@ module _ (p : ProblemParts) (node : List ℕ) (kept : List (List ℕ)) (fresh : 
       last true h = refl
       last false h = sym h
 
-  pub home_told : (place length' : ℕ) → StandsAt kept (rounds p.stage) place → length' ≡ length (rows_of p node) → (several || nat_lt (place + 1) length') ≡ is_home p node
+  pub home_told : (place length' : ℕ) → StandsAt (rows_of p node) (rounds p.stage) place → length' ≡ length (rows_of p node) → (several || nat_lt (place + 1) length') ≡ is_home p node
   home_told place length' stands long =
-      let same = whole p node kept fresh are differ in
       ap₂ (λ (s : Bool) (n : ℕ). s || nat_lt (place + 1) n) parts long
-      ∙ sym (home_at (rows_of p node) place differ (subst (λ rows. StandsAt rows (rounds p.stage) place) same stands) (nat_lt 1 (parts_of p)))
+      ∙ sym (home_at (rows_of p node) place differ stands (nat_lt 1 (parts_of p)))
 
   -- rounds stands nowhere
-  pub no_home : (Contains kept (rounds p.stage) → ⊥) → false ≡ is_home p node
+  pub no_home : (Contains (rows_of p node) (rounds p.stage) → ⊥) → false ≡ is_home p node
   no_home nowhere =
       let rows = rows_of p node in
-      let same = whole p node kept fresh are differ in
-      let none : (i : ℕ) → i < length rows → get_or rows i [] ≢ rounds p.stage = λ i inside is.
-      nowhere (subst (λ rs. Contains rs (rounds p.stage)) (sym same) (i, inside, get_or_default rows i (rounds p.stage) [] inside ∙ is)) in
+      let none : (i : ℕ) → i < length rows → get_or rows i [] ≢ rounds p.stage = λ i inside is. nowhere (i, inside, get_or_default rows i (rounds p.stage) [] inside ∙ is) in
       sym (ap₂ (λ a b. a || (b && nat_lt 1 (parts_of p))) (not_before (rounds p.stage) rows (λ i low. none i (omega (arith, low)))) (not_at_last (rounds p.stage) rows none))

@@ -1,6 +1,6 @@
 -- Rows of nodes with a lead more, and with one less.
 use Rattle.std.proofs.Common.{◌≡◌, ℕ, ◌+◌, ◌-◌, ◌<◌, ◌≤◌, true, false, not, nat_eq, List, [], ◌∷◌, ◌++◌, length, take, drop, sym, ap, ◌∙◌, subst, arith, inl, inr, append-nil, length-append}
-use Rattle.std.proofs.lemmas.Bool.{false_from_ne_true}
+use Rattle.std.proofs.lemmas.Bool.{cases_eq, false_from_ne_true}
 use Rattle.std.proofs.lemmas.Bool.Decides.{eqb_tells}
 use Rattle.cr_model.specs.Decided.{rows_differ}
 use Rattle.cr_model.proofs.Deciding.{rows_differ_decided}
@@ -12,7 +12,7 @@ use Rattle.cr_model.specs.Callings.{changes_of, changes_of_all, rows_from, last_
 use Rattle.cr_model.specs.Sizes.{child}
 use Rattle.cr_model.proofs.Ringing.{rows_on, lengths_on, head_on}
 use Rattle.cr_prune.proofs.Ringing.{length_rung}
-use Rattle.cr_prune.specs.Rung.{AreRows}
+use Rattle.cr_prune.specs.Holding.{AreFresh}
 
 -- as many rows as changes
 pub rows_counted : (p : ProblemParts) (calling : List ℕ) → length (rows_of p calling) ≡ length_of p calling
@@ -46,6 +46,10 @@ leads_differ p calling n differ =
     subst AllDiffer (first_rows p calling n)
     (differ_first (rows_of p calling) (length_of p (take n calling)) (omega (arith, first_fewer p calling n, rows_counted p calling)) differ)
 
+-- those of all leads
+pub whole_differs : (p : ProblemParts) (node : List ℕ) (fresh : ℕ) → AreFresh p node fresh → fresh ≡ length node → AllDiffer (rows_of p node)
+whole_differs p node fresh are all = subst (λ (calling : List ℕ). AllDiffer (rows_of p calling)) (take_all fresh node (omega (arith, all))) are.differ
+
 -- one lead more
 pub child_rows : (p : ProblemParts) (node : List ℕ) (step : ℕ) → rows_of p (child node step) ≡ rows_of p node ++ rows_from (head_of p node) (changes_of p step)
 child_rows p node step = rows_on p node (step ∷ []) ∙ ap (λ changes. rows_of p node ++ rows_from (head_of p node) changes) (append-nil (changes_of p step))
@@ -59,97 +63,86 @@ child_length p node step = lengths_on p node (step ∷ []) ∙ ap (λ changes. l
 child_counted : (node : List ℕ) (step : ℕ) → length (child node step) ≡ length node + 1
 child_counted node step = length-append node (step ∷ [])
 
-child_before : (node : List ℕ) (step n : ℕ) → n ≤ length node → take n (child node step) ≡ take n node
+pub child_before : (node : List ℕ) (step n : ℕ) → n ≤ length node → take n (child node step) ≡ take n node
 child_before node step n within = take-append-le n node (step ∷ []) within
 
 -- a lead that brings no row again
-pub rows_more : (p : ProblemParts) (node : List ℕ) (step : ℕ) (rows next : List (List ℕ)) (fresh fresher : ℕ) →
-    AreRows p node rows fresh → fresh ≡ length node → fresher ≡ length node + 1 → next ≡ rows ++ rows_from (head_of p node) (changes_of p step) →
-    AreRows p (child node step) next fresher
-rows_more p node step rows next fresh fresher are all more is =
+pub fresh_more : (p : ProblemParts) (node : List ℕ) (step fresh fresher : ℕ) → AreFresh p node fresh → fresher ≡ length node + 1 →
+    AllDiffer (rows_of p (child node step)) → AreFresh p (child node step) fresher
+fresh_more p node step fresh fresher are more differ =
     let counted = child_counted node step in
-    let old : rows ≡ rows_of p node = are.are ∙ ap (λ n. rows_of p (take n node)) all ∙ ap (rows_of p) (take_all (length node) node (omega arith)) in
     record {
       within = omega (arith, counted, more);
-      are = is ∙ ap (λ rs. rs ++ rows_from (head_of p node) (changes_of p step)) old ∙ sym (child_rows p node step)
-          ∙ ap (rows_of p) (sym (take_all fresher (child node step) (omega (arith, counted, more))));
+      differ = subst (λ (calling : List ℕ). AllDiffer (rows_of p calling)) (sym (take_all fresher (child node step) (omega (arith, counted, more)))) differ;
       again = λ low. absurd (omega (arith, low, counted, more));
     }
 
 -- one that brings a row again
-pub rows_again : (p : ProblemParts) (node : List ℕ) (step : ℕ) (rows : List (List ℕ)) (fresh : ℕ) →
-    AreRows p node rows fresh → fresh ≡ length node → (AllDiffer (rows ++ rows_from (head_of p node) (changes_of p step)) → ⊥) →
-    AreRows p (child node step) rows fresh
-rows_again p node step rows fresh are all again =
+pub fresh_again : (p : ProblemParts) (node : List ℕ) (step fresh : ℕ) → AreFresh p node fresh → fresh ≡ length node →
+    (AllDiffer (rows_of p (child node step)) → ⊥) → AreFresh p (child node step) fresh
+fresh_again p node step fresh are all again =
     let counted = child_counted node step in
-    let old : rows ≡ rows_of p node = are.are ∙ ap (λ n. rows_of p (take n node)) all ∙ ap (rows_of p) (take_all (length node) node (omega arith)) in
     record {
       within = omega (arith, counted, all);
-      are = are.are ∙ ap (rows_of p) (sym (child_before node step fresh (omega (arith, all))));
-      again = λ low differ. again (subst AllDiffer
-          (ap (rows_of p) (take_all (fresh + 1) (child node step) (omega (arith, counted, all))) ∙ child_rows p node step
-          ∙ ap (λ rs. rs ++ rows_from (head_of p node) (changes_of p step)) (sym old)) differ);
+      differ = subst (λ (calling : List ℕ). AllDiffer (rows_of p calling)) (sym (child_before node step fresh are.within)) are.differ;
+      again = λ low differ. again (subst (λ (calling : List ℕ). AllDiffer (rows_of p calling)) (take_all (fresh + 1) (child node step) (omega (arith, counted, all))) differ);
     }
 
 -- one below a lead that brings a row again
-pub rows_below : (p : ProblemParts) (node : List ℕ) (step : ℕ) (rows : List (List ℕ)) (fresh : ℕ) →
-    AreRows p node rows fresh → (fresh ≡ length node → ⊥) → AreRows p (child node step) rows fresh
-rows_below p node step rows fresh are some =
+pub fresh_below : (p : ProblemParts) (node : List ℕ) (step fresh : ℕ) → AreFresh p node fresh → (fresh ≡ length node → ⊥) → AreFresh p (child node step) fresh
+fresh_below p node step fresh are some =
     let counted = child_counted node step in
     let low : fresh < length node = omega (arith, are.within, some) in
     record {
       within = omega (arith, counted, low);
-      are = are.are ∙ ap (rows_of p) (sym (child_before node step fresh are.within));
-      again = λ _ differ. are.again low (subst AllDiffer (ap (rows_of p) (child_before node step (fresh + 1) (omega (arith, low)))) differ);
+      differ = subst (λ (calling : List ℕ). AllDiffer (rows_of p calling)) (sym (child_before node step fresh are.within)) are.differ;
+      again = λ _ differ. are.again low (subst (λ (calling : List ℕ). AllDiffer (rows_of p calling)) (child_before node step (fresh + 1) (omega (arith, low))) differ);
     }
 
 -- one lead less: where it brought no row again, and where one before it or it did
-pub rows_less : (p : ProblemParts) (node : List ℕ) (rows next : List (List ℕ)) (fresh left rung : ℕ) →
-    AreRows p node rows fresh → fresh ≡ length node → left ≡ length node - 1 → rung ≡ length_of p (take left node) → next ≡ take rung rows →
-    AreRows p (take left node) next left
-rows_less p node rows next fresh left rung are all less is cut =
+pub fresh_less : (p : ProblemParts) (node : List ℕ) (fresh left : ℕ) → AreFresh p node fresh → fresh ≡ length node → left ≡ length node - 1 → AreFresh p (take left node) left
+fresh_less p node fresh left are all less =
     let counted : length (take left node) ≡ left = length-take-le left node (omega (arith, less)) in
-    let old : rows ≡ rows_of p node = are.are ∙ ap (λ n. rows_of p (take n node)) all ∙ ap (rows_of p) (take_all (length node) node (omega arith)) in
     record {
       within = omega (arith, counted);
-      are = cut ∙ ap (take rung) old ∙ ap (λ n. take n (rows_of p node)) is ∙ first_rows p node left ∙ ap (rows_of p) (sym (take_all left (take left node) (omega (arith, counted))));
+      differ = subst (λ (calling : List ℕ). AllDiffer (rows_of p calling)) (sym (take_all left (take left node) (omega (arith, counted)))) (leads_differ p node left (whole_differs p node fresh are all));
       again = λ low. absurd (omega (arith, low, counted));
     }
 
-pub rows_stay : (p : ProblemParts) (node : List ℕ) (rows : List (List ℕ)) (fresh left : ℕ) →
-    AreRows p node rows fresh → (fresh ≡ length node → ⊥) → left ≡ length node - 1 → AreRows p (take left node) rows fresh
-rows_stay p node rows fresh left are some less =
+pub fresh_stays : (p : ProblemParts) (node : List ℕ) (fresh left : ℕ) → AreFresh p node fresh → (fresh ≡ length node → ⊥) → left ≡ length node - 1 → AreFresh p (take left node) fresh
+fresh_stays p node fresh left are some less =
     let low : fresh < length node = omega (arith, are.within, some) in
     let counted : length (take left node) ≡ left = length-take-le left node (omega (arith, less)) in
     record {
       within = omega (arith, counted, low, less);
-      are = are.are ∙ ap (rows_of p) (sym (take-take fresh left node (omega (arith, low, less))));
-      again = λ lower differ. are.again low (subst AllDiffer (ap (rows_of p) (take-take (fresh + 1) left node (omega (arith, lower, counted)))) differ);
+      differ = subst (λ (calling : List ℕ). AllDiffer (rows_of p calling)) (sym (take-take fresh left node (omega (arith, low, less)))) are.differ;
+      again = λ lower differ. are.again low (subst (λ (calling : List ℕ). AllDiffer (rows_of p calling)) (take-take (fresh + 1) left node (omega (arith, lower, counted))) differ);
     }
 
--- a node brings a row again exactly where not all of its leads are kept
-pub all_fresh : (p : ProblemParts) (node : List ℕ) (rows : List (List ℕ)) (fresh : ℕ) → AreRows p node rows fresh → fresh ≡ length node → rows ≡ rows_of p node
-all_fresh p node rows fresh are all = are.are ∙ ap (λ n. rows_of p (take n node)) all ∙ ap (rows_of p) (take_all (length node) node (omega arith))
+-- a node brings a row again exactly where not all of its leads are fresh
+pub not_fresh : (p : ProblemParts) (node : List ℕ) (fresh : ℕ) → AreFresh p node fresh → (fresh ≡ length node → ⊥) → AllDiffer (rows_of p node) → ⊥
+not_fresh p node fresh are some differ = are.again (omega (arith, are.within, some)) (leads_differ p node (fresh + 1) differ)
 
-pub not_fresh : (p : ProblemParts) (node : List ℕ) (rows : List (List ℕ)) (fresh : ℕ) → AreRows p node rows fresh → (fresh ≡ length node → ⊥) → AllDiffer (rows_of p node) → ⊥
-not_fresh p node rows fresh are some differ = are.again (omega (arith, are.within, some)) (leads_differ p node (fresh + 1) differ)
+pub all_fresh : (p : ProblemParts) (node : List ℕ) (fresh : ℕ) → AreFresh p node fresh → AllDiffer (rows_of p node) → take fresh node ≡ node
+all_fresh p node fresh are differ = elim (cases_eq fresh (length node)) [
+  | inl all ↦ take_all fresh node (omega (arith, all))
+  | inr some ↦ absurd (not_fresh p node fresh are some differ)
+]
+
+pub repeat_told : (p : ProblemParts) (node : List ℕ) (fresh leads : ℕ) → AreFresh p node fresh → leads ≡ length node → not (nat_eq fresh leads) ≡ not (rows_differ (rows_of p node))
+repeat_told p node fresh leads are all = elim (eqb_tells fresh leads) [
+  | inl e ↦
+      let differ : rows_differ (rows_of p node) ≡ true = (rows_differ_decided (rows_of p node)).1 (whole_differs p node fresh are (e.1 ∙ all)) in
+      ap not (e.0 ∙ sym differ)
+  | inr e ↦
+      let again : rows_differ (rows_of p node) ≡ false =
+      false_from_ne_true (rows_differ (rows_of p node)) (λ same. not_fresh p node fresh are (λ whole. e.1 (whole ∙ sym all)) ((rows_differ_decided (rows_of p node)).0 same)) in
+      ap not (e.0 ∙ sym again)
+]
 
 -- one lead rung from one row
 pub same_lead : (from head : List ℕ) (changes lead : List Places) → from ≡ head → changes ≡ lead → rows_from from changes ≡ rows_from head lead
 same_lead from head changes lead begin is = ap (λ row. rows_from row changes) begin ∙ ap (rows_from head) is
-
-pub repeat_told : (p : ProblemParts) (node : List ℕ) (rows : List (List ℕ)) (fresh leads : ℕ) → AreRows p node rows fresh → leads ≡ length node → AllDiffer rows →
-    not (nat_eq fresh leads) ≡ not (rows_differ (rows_of p node))
-repeat_told p node rows fresh leads are all differ = elim (eqb_tells fresh leads) [
-  | inl e ↦
-      let differ' : rows_differ (rows_of p node) ≡ true =
-      (rows_differ_decided (rows_of p node)).1 (subst AllDiffer (all_fresh p node rows fresh are (e.1 ∙ all)) differ) in
-      ap not (e.0 ∙ sym differ')
-  | inr e ↦
-      let again : rows_differ (rows_of p node) ≡ false =
-      false_from_ne_true (rows_differ (rows_of p node)) (λ same. not_fresh p node rows fresh are (λ whole. e.1 (whole ∙ sym all)) ((rows_differ_decided (rows_of p node)).0 same)) in
-      ap not (e.0 ∙ sym again)
-]
 
 pub same_last : (from head : List ℕ) (changes lead : List Places) → from ≡ head → changes ≡ lead → last_of from (rows_from from changes) ≡ last_of head (rows_from head lead)
 same_last from head changes lead begin is = ap (λ row. last_of row (rows_from row changes)) begin ∙ ap (λ cs. last_of head (rows_from head cs)) is

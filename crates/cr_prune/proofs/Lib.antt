@@ -5,5 +5,7 @@ pub mod Twice
 pub mod Past
 pub mod Homes
 pub mod Multiplied
+pub mod Clashes
+pub mod Holding
 pub mod Walking
 pub mod Reasons

@@ -18,7 +18,7 @@ use Rattle.cr_model.specs.Sizes.{child}
 use Rattle.cr_model.proofs.Below.{some_shortest, shortest_leads}
 
 -- the length of a head
-last_long : (row : List ℕ) (changes : List Places) → length (last_of row (rows_from row changes)) ≡ length row
+pub last_long : (row : List ℕ) (changes : List Places) → length (last_of row (rows_from row changes)) ≡ length row
 last_long row [] = refl
 last_long row (change ∷ changes) = last_long (after change row) changes ∙ length-changed change.made 1 row
 

@@ -1,5 +1,5 @@
 -- The rows of a node, so many times over.
-use Rattle.std.proofs.Common.{◌≡◌, ℕ, zero, suc, ◌+◌, ◌-◌, ◌*◌, ◌<◌, ◌≤◌, Bool, ◌↔◌, true, List, [], ◌++◌, length, get_or, map, All, Contains, sym, ap, ◌∙◌, subst, arith, inl, inr, append-nil, length-append}
+use Rattle.std.proofs.Common.{◌≡◌, ℕ, zero, suc, ◌+◌, ◌-◌, ◌*◌, ◌<◌, ◌≤◌, Bool, ◌↔◌, true, List, [], ◌++◌, length, get_or, map, take, All, Contains, sym, ap, ◌∙◌, subst, arith, inl, inr, append-nil, length-append}
 use Rattle.std.specs.Prelude.{IsTrue}
 use Rattle.std.proofs.lemmas.Bool.{cases_lt}
 use Rattle.std.proofs.lemmas.Bool.Decides.{same_from_decides}
@@ -20,12 +20,12 @@ use Rattle.cr_model.proofs.NewRows.{differ_joined}
 use Rattle.cr_model.proofs.Ringing.{rows_from-append, rows_on, head_on, changes-append, rung_from}
 use Rattle.cr_model.proofs.Turned.{head_joined}
 use Rattle.cr_prune.specs.Parts.{AreNew}
-use Rattle.cr_prune.specs.Rung.{AreRows}
-use Rattle.cr_prune.proofs.Homes.{whole}
+use Rattle.cr_prune.specs.Holding.{AreFresh}
+use Rattle.cr_prune.proofs.Leads.{all_fresh}
 use Rattle.cr_prune.proofs.Past.{all_front, all_behind, repeated_joined, repeated_on}
 
 -- the laws of rows and changes
-row_laws : RowLaws
+pub row_laws : RowLaws
 row_laws = record {
   rounds_row = IsRow-rounds;
   rounds_length = length-rounds;
@@ -39,7 +39,7 @@ row_laws = record {
 }
 
 -- products of one row with rows that differ do so too
-products_differ : (n : ℕ) (h : List ℕ) (rows : List (List ℕ)) → IsRowOf n h → All (IsRowOf n) rows → AllDiffer rows → AllDiffer (map (product h) rows)
+pub products_differ : (n : ℕ) (h : List ℕ) (rows : List (List ℕ)) → IsRowOf n h → All (IsRowOf n) rows → AllDiffer rows → AllDiffer (map (product h) rows)
 products_differ n h rows is are differ i j less inside same =
     let short : j < length rows = omega (arith, inside, length-map rows (product h)) in
     let low : i < length rows = omega (arith, less, short) in
@@ -50,7 +50,7 @@ products_differ n h rows is are differ i j less inside same =
     differ i j less short (product_left h (get_or rows i []) (get_or rows j []) is.is a.is b.is (a.long ∙ sym is.long) (b.long ∙ sym is.long) (sym one ∙ same ∙ two))
 
 -- of joined rows that differ, none behind stands in front
-new_from_differ : (rows more : List (List ℕ)) → AllDiffer (rows ++ more) → AreNew rows more
+pub new_from_differ : (rows more : List (List ℕ)) → AllDiffer (rows ++ more) → AreNew rows more
 new_from_differ rows more differ = λ k d inside held.
     let whole : length (rows ++ more) ≡ length rows + length more = length-append rows more in
     let (i, low, is) = held in
@@ -179,16 +179,16 @@ module _ (p : ProblemParts) (node : List ℕ) where
     half_told : (b : Bool) → (IsTrue b ↔ AreNew (rows_of p node) (further half)) → IsTrue b ↔ AreNew (rows_of p node) (further number)
     half_told b told = (λ h. all_are_new (told.0 h), λ new. told.1 (half_is_new new))
 
-  -- so a walk, which keeps the rows of the node, tells whether all rows of the touch differ
-  pub touch_told : (kept : List (List ℕ)) (fresh : ℕ) (head : List ℕ) (steps : List ℕ) (half : ℕ) (b : Bool) → AreRows p node kept fresh → rows_differ (rows_of p node) ≡ true →
+  -- so a walk, which holds the leads of the node, tells whether all rows of the touch differ
+  pub touch_told : (fresh : ℕ) (head : List ℕ) (steps : List ℕ) (half : ℕ) (b : Bool) → AreFresh p node fresh → rows_differ (rows_of p node) ≡ true →
       head_of p (touch_of p node) ≡ rounds p.stage → head ≡ head_of p node → steps ≡ node → half < parts_of p → parts_of p ≤ 2 * half + 1 →
-      (IsTrue b ↔ AreNew kept (rows_from head (changes_of_all p (repeated half steps)))) → b ≡ rows_differ (rows_of p (touch_of p node))
-  touch_told kept fresh head steps half b are differ home head_is steps_are within enough told =
+      (IsTrue b ↔ AreNew (rows_of p (take fresh steps)) (rows_from head (changes_of_all p (repeated half steps)))) → b ≡ rows_differ (rows_of p (touch_of p node))
+  touch_told fresh head steps half b are differ home head_is steps_are within enough told =
       let differ' : AllDiffer (rows_of p node) = (rows_differ_decided (rows_of p node)).0 differ in
       let told' : IsTrue b ↔ AreNew (rows_of p node) (further half) =
-      subst (λ rows. IsTrue b ↔ AreNew rows (further half)) (whole p node kept fresh are differ')
-      (subst (λ row. IsTrue b ↔ AreNew kept (rows_from row (changes_of_all p (repeated half node)))) head_is
-      (subst (λ word. IsTrue b ↔ AreNew kept (rows_from head (changes_of_all p (repeated half word)))) steps_are told)) in
+      subst (λ (leads : List ℕ). IsTrue b ↔ AreNew (rows_of p leads) (further half)) (all_fresh p node fresh are differ')
+      (subst (λ row. IsTrue b ↔ AreNew (rows_of p (take fresh node)) (rows_from row (changes_of_all p (repeated half node)))) head_is
+      (subst (λ word. IsTrue b ↔ AreNew (rows_of p (take fresh word)) (rows_from head (changes_of_all p (repeated half word)))) steps_are told)) in
       let all : parts_of p - 1 + 1 ≡ parts_of p = omega (arith, within) in
       let home' : head_after (parts_of p - 1 + 1) ≡ rounds p.stage = ap head_after all ∙ home in
       same_from_decides b (rows_differ (rows_of p (touch_of p node)))

@@ -3,8 +3,12 @@
 
 mod ends;
 mod facts;
+mod first;
+mod heads;
+mod held;
 pub mod laws;
 mod parts;
+mod passing;
 mod pruner;
 mod repeats;
 mod rows;

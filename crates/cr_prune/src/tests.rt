@@ -1,9 +1,11 @@
-ghost use Rattle.std.specs.Prelude.{◌≡◌, ◌<◌, ◌≤◌, length, IsTrue, IfOk};
+ghost use Rattle.std.specs.Prelude.{◌≡◌, ◌<◌, ◌≤◌, length, IsTrue, IfOk, IfSome};
 ghost use Rattle.cr_model.specs.Callings.{length_of};
 ghost use Rattle.cr_model.specs.Queries.{part_cap};
 ghost use Rattle.cr_leads.specs.Tables.{lead_table};
+ghost use Rattle.cr_false.specs.Sets.{IsFalseTable};
 
 use super::*;
+use cr_false::{Built, FalseTable};
 use cr_leads::LeadTable;
 use cr_model::Cell::Bell;
 use cr_model::{Cell, Com, Count, Lead, Pattern, Problem, Query, Reason, Step};
@@ -11,6 +13,7 @@ use cr_reach::ReachTable;
 use cr_row::{Change, Stage};
 use std::alloc::Global;
 use std::test::*;
+use std::thread::Threads;
 
 mod plain;
 mod trees;
@@ -179,11 +182,36 @@ fn reach_table(alloc: Global, leads: &LeadTable) -> Result<ReachTable, Fail> {
     }
 }
 
-fn walk_of<'a>(alloc: Global, problem: &'a Problem, leads: &'a LeadTable) -> Result<Walk<'a>, Fail>
-    requires { leads.now ≡ lead_table problem.now }
+// The falseness table of some leads, where one is asked for.
+fn false_table(
+    rt: &(impl Threads + Sync),
+    alloc: Global,
+    leads: &LeadTable,
+    asked: bool,
+) -> Result<Option<FalseTable>, Fail>
+    ensures { IfOk result (λ table. IfSome table (λ table. IsFalseTable leads.now table)) }
+{
+    if !asked {
+        return Ok(None);
+    }
+    match FalseTable::new(rt, alloc, leads, 4_000_000) {
+        Ok(Built::Table(table)) => Ok(Some(table)),
+        Ok(Built::Wide(_)) => Err(Fail::from("the table is small")),
+        Err(_) => Err(Fail::from("there is memory")),
+    }
+}
+
+fn walk_of<'a>(
+    alloc: Global,
+    problem: &'a Problem,
+    leads: &'a LeadTable,
+    table: Option<&'a FalseTable>,
+) -> Result<Walk<'a>, Fail>
+    requires leads { leads.now ≡ lead_table problem.now }
+    requires table { IfSome table (λ table. IsFalseTable leads.now table.now) }
     ensures { IfOk result (λ walk. walk.problem ≡ problem.now) }
 {
-    match Walk::new(alloc, problem, leads) {
+    match Walk::new(alloc, problem, leads, table) {
         Ok(walk) => Ok(walk),
         Err(_) => Err(Fail::from("there is memory")),
     }
@@ -218,12 +246,19 @@ fn go_on(problem: &Problem, walk: &mut Walk, moves: &[u8]) -> Result<(), Fail>
     Ok(())
 }
 
-// Why the node is dead to which these moves lead.
-fn dead_after(alloc: Global, draft: &Draft, moves: &[u8]) -> Result<Option<Reason>, Fail> {
+// Why the node is dead to which these moves lead, by a walk with a falseness table or without one.
+fn dead_after(
+    rt: &(impl Threads + Sync),
+    alloc: Global,
+    draft: &Draft,
+    moves: &[u8],
+    asked: bool,
+) -> Result<Option<Reason>, Fail> {
     let problem = problem_of(alloc, draft)?;
     let leads = lead_table(alloc, &problem)?;
     let reach = reach_table(alloc, &leads)?;
-    let mut walk = walk_of(alloc, &problem, &leads)?;
+    let table = false_table(rt, alloc, &leads, asked)?;
+    let mut walk = walk_of(alloc, &problem, &leads, table.as_ref())?;
     go_on(&problem, &mut walk, moves)?;
     if walk.steps().is_empty() {
         return Err(Fail::from("the node has steps"));
@@ -257,8 +292,10 @@ const NODES: [(&str, Draft, &[u8], Option<Reason>); 15] = [
 #[test]
 fn nodes_and_why_they_are_dead(rt: HostRuntime) -> Result<(), Fail> {
     for (name, draft, moves, wanted) in NODES {
-        if dead_after(rt.alloc(), &draft, moves)? != wanted {
-            return Err(Fail::from(name));
+        for asked in [false, true] {
+            if dead_after(&rt, rt.alloc(), &draft, moves, asked)? != wanted {
+                return Err(Fail::from(name));
+            }
         }
     }
     Ok(())

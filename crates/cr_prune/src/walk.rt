@@ -1,9 +1,9 @@
 //! A walk through the nodes of a problem.
 
-ghost use Rattle.std.specs.Prelude.{◌≡◌, ◌+◌, ◌-◌, ◌<◌, ◌≤◌, ◌↔◌, ℕ, Bool, true, false, not, ◌||◌, nat_lt, [], ◌∷◌, ◌++◌, length, take, get_or, All, Some, List, IsTrue, IfOk};
+ghost use Rattle.std.specs.Prelude.{◌≡◌, ◌+◌, ◌-◌, ◌<◌, ◌≤◌, ◌↔◌, ℕ, Bool, true, false, not, ◌||◌, nat_lt, [], ◌∷◌, ◌++◌, length, take, get_or, All, Some, List, IsTrue, IfOk, IfSome};
 ghost use Rattle.cr_row.specs.Rows.{rounds};
 ghost use Rattle.cr_model.specs.Problems.{ProblemParts};
-ghost use Rattle.cr_model.specs.Callings.{changes_at, changes_of, rows_of, length_of, head_of, HasSteps};
+ghost use Rattle.cr_model.specs.Callings.{changes_at, changes_of, rows_from, last_of, rows_of, length_of, head_of, HasSteps};
 ghost use Rattle.cr_model.specs.Queries.{part_cap};
 ghost use Rattle.cr_model.specs.OneTurn.{touch_of};
 ghost use Rattle.cr_model.specs.Decided.{rows_differ};
@@ -12,18 +12,18 @@ ghost use Rattle.cr_model.specs.Sizes.{child};
 ghost use Rattle.cr_model.specs.Sound.{IsSound};
 ghost use Rattle.cr_model.specs.Turning.{TurnsBack, IsLeastRotation};
 ghost use Rattle.cr_leads.specs.Tables.{lead_table};
+ghost use Rattle.cr_false.specs.Sets.{IsFalseTable};
 ghost use Rattle.cr_query.specs.declared.meter.Hopeless.TheVariants.{TooMany, TooFew};
 ghost use Rattle.cr_query.specs.Meeting.{MeetsCounts, MeetsMethodCounts};
 ghost use Rattle.cr_query.specs.Meters.{is_hopeless_by_leads};
-ghost use Rattle.cr_prune.specs.Rung.{AreRows};
-ghost use Rattle.cr_prune.specs.Walks.{walk_from, parent, room_of};
+ghost use Rattle.cr_prune.specs.Rung.{room_of};
 
-use crate::ends::{Ends, LeadEnd};
+use crate::ends::Ends;
+use crate::first::FirstLeads;
 use crate::parts::{bring_new_rows, parts_to_ring};
-use crate::rows::Rows;
+use cr_false::FalseTable;
 use cr_leads::LeadTable;
 use cr_model::laws::joined_callings_multiply;
-use cr_model::limits::MOST_LEAD_CHANGES;
 use cr_model::{Lead, Problem};
 use cr_query::{Hopeless, Meter};
 use cr_rotate::Period;
@@ -42,7 +42,7 @@ pub struct Walk<'a> {
     // The node.
     steps: Period,
     ends: Ends,
-    rows: Rows,
+    first: FirstLeads<'a>,
     meter: Meter,
 }
 
@@ -53,29 +53,32 @@ impl<'a> Model for Walk<'a> {
 
     ghost view = { λ w. walk_from w.problem.now w.steps };
 
-    ghost invariant = { λ w. IsWalk w.problem.now w.leads.now w.steps w.ends w.rows.stack w.rows.fresh w.meter };
+    ghost invariant = { λ w. IsWalk w.problem.now w.leads.now w.steps w.ends w.first.held w.first.fresh w.meter };
 }
 
 impl<'a> Walk<'a> {
-    /// The walk at the node of no steps. Err where no memory is left.
+    /// The walk at the node of no steps. It takes all its room here: a row stack without a table, a list of lead heads
+    /// with one. Err where no memory is left.
     pub fn new(
         alloc: Global,
         problem: &'a Problem,
         leads: &'a LeadTable,
+        table: Option<&'a FalseTable>,
     ) -> Result<Walk<'a>, NoMemory>
-        requires { leads.now ≡ lead_table problem.now }
+        requires leads { leads.now ≡ lead_table problem.now }
+        requires table { IfSome table (λ table. IsFalseTable leads.now table.now) }
         ensures { IfOk result (λ walk. walk ≡ record { problem = problem.now; node = [] }) }
     {
         let steps = Period::new(alloc)?;
         let ends = Ends::new(alloc, Row::rounds(problem.stage()))?;
-        let rows = Rows::new(alloc, problem.part_cap() + MOST_LEAD_CHANGES as u64)?;
+        let first = FirstLeads::new(alloc, problem, leads, table)?;
         let meter = Meter::new(alloc, problem)?;
         Ok(Walk {
             problem,
             leads,
             steps,
             ends,
-            rows,
+            first,
             meter,
         })
     }
@@ -89,11 +92,10 @@ impl<'a> Walk<'a> {
     {
         let leads = self.leads;
         let from = self.ends.last();
-        let changes = changes_of(self.problem, step);
-        let number = self.steps.steps().len();
-        let rung = from.rung + changes.len() as u64;
-        let head = ring(&mut self.rows, leads, number, from.head, step, changes);
-        self.ends.push(LeadEnd { head, rung });
+        let end = self
+            .first
+            .ring(self.problem, leads, self.steps.steps(), from, step);
+        self.ends.push(end);
         self.meter.add_lead(leads, step, &from.head);
         self.steps.push(step);
     }
@@ -108,7 +110,7 @@ impl<'a> Walk<'a> {
         let step = self.steps.steps()[number - 1];
         self.ends.pop();
         let before = self.ends.last();
-        self.rows.take_back(number, before.rung);
+        self.first.take_back(number, before.rung);
         self.meter.take_back(leads, step, &before.head);
         self.steps.pop();
     }
@@ -146,11 +148,11 @@ impl<'a> Walk<'a> {
     pub fn has_repeat(&self) -> bool
         ensures { result ≡ not (rows_differ (rows_of self.now.problem self.now.node)) }
     {
-        self.rows.has_repeat(self.steps.steps().len())
+        self.first.has_repeat(self.steps.steps().len())
     }
 
     /// Whether all rows of the node's touch differ, where those of the node do and the touch comes home. It takes no
-    /// memory, rings half of the parts, and stops at the first row of the node that comes again.
+    /// memory, goes through half of the parts, and stops at the first lead that brings a row of the node again.
     pub fn parts_differ(&self) -> bool
         requires fresh { rows_differ (rows_of self.now.problem self.now.node) ≡ true }
         requires home { head_of self.now.problem (touch_of self.now.problem self.now.node) ≡ rounds self.now.problem.stage }
@@ -158,7 +160,8 @@ impl<'a> Walk<'a> {
     {
         let head = self.ends.last().head;
         let parts = parts_to_ring(self.problem);
-        bring_new_rows(&self.rows, self.problem, self.steps.steps(), head, parts)
+        let node = self.steps.steps();
+        bring_new_rows(&self.first, self.problem, self.leads, node, head, parts)
     }
 
     /// Whether no rotation of the node is less than it.
@@ -216,7 +219,7 @@ impl<'a> Walk<'a> {
         ensures { result ≡ is_home self.now.problem self.now.node }
     {
         let rounds = Row::rounds(self.problem.stage());
-        match self.rows.place_of(&rounds) {
+        match self.first.home(&rounds) {
             Some(place) => is_early(place, self.length(), several),
             None => false,
         }
@@ -229,33 +232,6 @@ fn is_early(place: u64, length: u64, several: bool) -> bool
     ensures { result ≡ (several || nat_lt (place + 1) length) }
 {
     several || place + 1 < length
-}
-
-// Rings one more lead, of these changes, from the head of so many, and gives the head after it.
-fn ring(
-    rows: &mut Rows,
-    leads: &LeadTable,
-    number: usize,
-    from: Row,
-    step: u8,
-    changes: &[Change],
-) -> Row
-    requires staged { All (λ change. change.stage ≡ length from) changes.now }
-    requires room { length rows.old.stack.rows + length changes.now ≤ rows.old.stack.room }
-    requires few { number < 1024 }
-    requires step { step < length leads.now.leads }
-    requires same_stage { length from ≡ leads.now.stage }
-    ensures head { (p : ProblemParts) (node : List ℕ) → leads.now ≡ lead_table p → from ≡ head_of p node
-        → changes.now ≡ changes_of p step → result ≡ head_of p (child node step) }
-    ensures room { rows.new.stack.room ≡ rows.old.stack.room }
-    ensures are { (p : ProblemParts) (node : List ℕ) → number ≡ length node → from ≡ head_of p node
-        → changes.now ≡ changes_of p step → AreRows p node rows.old.stack.rows rows.old.fresh
-        → AreRows p (child node step) rows.new.stack.rows rows.new.fresh }
-{
-    match rows.ring(number, from, changes) {
-        Some(head) => head,
-        None => head_after(leads, from, step),
-    }
 }
 
 /// The changes of a step.
@@ -283,8 +259,9 @@ fn changes_at(leads: &[Lead], step: u8) -> &[Change]
 pub fn head_after(leads: &LeadTable, head: Row, step: u8) -> Row
     requires step { step < length leads.now.leads }
     requires same_stage { length head ≡ leads.now.stage }
-    ensures { (p : ProblemParts) (node : List ℕ) → leads.now ≡ lead_table p → head ≡ head_of p node
+    ensures is { (p : ProblemParts) (node : List ℕ) → leads.now ≡ lead_table p → head ≡ head_of p node
         → result ≡ head_of p (child node step) }
+    ensures last { (p : ProblemParts) → leads.now ≡ lead_table p → result ≡ last_of head (rows_from head (changes_of p step)) }
 {
     joined_callings_multiply();
     head.times(&leads.head_of(step))

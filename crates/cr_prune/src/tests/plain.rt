@@ -45,6 +45,20 @@ pub fn reasons(
     ])
 }
 
+/// Whether all rows of a node's touch differ.
+pub fn touch_differs(
+    alloc: Global,
+    problem: &Problem,
+    leads: &LeadTable,
+    node: &[u8],
+) -> Result<bool, Fail> {
+    let mut touch = Vec::new(alloc);
+    for _part in 0..problem.query().parts.unsigned_abs() {
+        touch.extend_from_slice(node)?;
+    }
+    Ok(ring(alloc, leads, &touch)?.distinct)
+}
+
 fn ring(alloc: Global, leads: &LeadTable, steps: &[u8]) -> Result<Rung, Fail> {
     let Ok(calling) = Calling::new(steps.to_vec(alloc)?) else {
         return Err(Fail::from("the calling is short"));

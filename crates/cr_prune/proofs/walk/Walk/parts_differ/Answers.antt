@@ -21,8 +21,8 @@ returns c =
     let node = c.self.inside.steps in
     let home : head_of p (touch_of p node) ≡ rounds p.stage =
     subst (λ (w : WalkParts). head_of w.problem (touch_of w.problem w.node) ≡ rounds w.problem.stage) (sym c.self.view_is) c.requires.home in
-    touch_told p node c.self.inside.rows.stack.rows c.self.inside.rows.fresh c.last-head.result.head c.steps.result.now c.parts_to_ring-parts.result c.bring_new_rows.result
-    c.self.invariant.rows (ap (λ (w : WalkParts). rows_differ (rows_of w.problem w.node)) c.self.view_is ∙ c.requires.fresh) home
-    (ap (λ (e : LeadEnd). e.head) (c.last-head.ensures p node c.self.invariant.ends)) c.steps.ensures.is
+    touch_told p node c.self.inside.first.fresh c.last-head.result.head c.steps-node.result.now c.parts_to_ring-parts.result c.bring_new_rows.result
+    c.self.invariant.first.are_fresh (ap (λ (w : WalkParts). rows_differ (rows_of w.problem w.node)) c.self.view_is ∙ c.requires.fresh) home
+    (ap (λ (e : LeadEnd). e.head) (c.last-head.ensures p node c.self.invariant.ends)) c.steps-node.ensures.is
     c.parts_to_ring-parts.ensures.within c.parts_to_ring-parts.ensures.enough c.bring_new_rows.ensures
     ∙ ap (λ (w : WalkParts). rows_differ (rows_of w.problem (touch_of w.problem w.node))) c.self.view_is

@@ -1,9 +1,0 @@
-use Rattle.std.proofs.Common.{◌≡◌, length, take, Some}
-use Rattle.cr_prune.specs.Parts.{RingsPast}
-use Rattle.cr_prune.proofs.parts.ring_lead.Given as goal
-
-abbrev pub invariant-loop-change : goal.invariant-loop-change
-invariant-loop-change l = record {
-  stage : length l.row ≡ length l.fn.from;
-  past : RingsPast l.rows.stack.rows l.fn.from (take l.change-index l.changes) (Some l.row);
-}
