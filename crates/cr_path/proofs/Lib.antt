@@ -1,0 +1,14 @@
+pub mod Places
+pub mod Listed
+pub mod Products
+pub mod Children
+pub mod Marking
+pub mod Living
+pub mod Walking
+pub mod Passing
+pub mod Multiplied
+pub mod Grown
+pub mod Bounds
+pub mod Lives
+pub mod Recorded
+pub mod Minimus

@@ -1,0 +1,189 @@
+-- The marks of a node's rows, a lead more and a lead less.
+use Rattle.std.proofs.Common.{◌≡◌, ℕ, ◌+◌, ◌-◌, ◌*◌, ◌<◌, ◌≤◌, Bool, true, false, cond, not, ◌&&◌, nat_eq, List, [], ◌∷◌, ◌++◌, length, get_or, map, take, drop, All, sym, ap, ap₂, ◌∙◌, subst, inl, inr, arith, length-append}
+use Rattle.std.specs.List.{list_any}
+use Rattle.std.proofs.lemmas.Bool.{and_parts, cases_eq, false≢true, false_from_ne_true, not-true}
+use Rattle.std.proofs.lemmas.Bool.Decides.{eqb_tells}
+use Rattle.std.proofs.lemmas.List.{take_all, take-append-le}
+use Rattle.std.proofs.lemmas.List.Elements.{All-take, All-drop}
+use Rattle.cr_model.specs.Problems.{ProblemParts}
+use Rattle.cr_model.specs.Callings.{rows_of, head_of}
+use Rattle.cr_model.specs.Decided.{rows_differ}
+use Rattle.cr_model.specs.Levels.{is_listed}
+use Rattle.cr_model.specs.Sizes.{child}
+use Rattle.cr_path.specs.declared.table.LeadRecord.{LeadRecord}
+use Rattle.cr_path.specs.declared.ends.LeadEnd.{LeadEnd}
+use Rattle.cr_path.specs.Ends.{IsEnd}
+use Rattle.cr_path.specs.Marks.{some_marked, numbers_differ, AreSet, AreMarked}
+use Rattle.cr_path.specs.Numbers.{NumberParts, lead_from, IsRecord, IsNumbered}
+use Rattle.cr_path.proofs.Children.{child_rows, leads_differ}
+use Rattle.cr_path.proofs.Listed.{at, differ_joined, some_are, number_listed, they_differ, more_marked, fewer_marked}
+
+child_counted : (node : List ℕ) (step : ℕ) → length (child node step) ≡ length node + 1
+child_counted node step = length-append node (step ∷ [])
+
+child_before : (node : List ℕ) (step n : ℕ) → n ≤ length node → take n (child node step) ≡ take n node
+child_before node step n within = take-append-le n node (step ∷ []) within
+
+module _ (p : ProblemParts) (t : NumberParts) (numbered : IsNumbered p t) where
+  -- what is found of a step from the end of a calling
+  pub lead_known : (calling : List ℕ) (end : LeadEnd) (step : ℕ) (lead : LeadRecord) → IsEnd p t calling end → step < length p.leads
+      → lead ≡ get_or t.records (end.head * t.steps + step) lead → IsRecord p t (head_of p calling) step lead
+  lead_known calling end step lead at_end inside is =
+      subst (IsRecord p t (head_of p calling) step) (sym is)
+      (subst (λ head. IsRecord p t head step (get_or t.records (end.head * t.steps + step) lead)) at_end.is
+      (numbered.each end.head step lead at_end.numbered (subst (λ n. step < n) (sym numbered.counted) inside)))
+
+  -- the numbers of its rows
+  abbrev pub numbers_in : LeadRecord → List ℕ
+  numbers_in lead = take (lead.end - lead.start) (drop lead.start t.numbers)
+
+  pub within_in : (lead : LeadRecord) → All (λ number. number < length t.rows) (numbers_in lead)
+  within_in lead = All-take (λ (number : ℕ). number < length t.rows) (lead.end - lead.start) (drop lead.start t.numbers) (All-drop (λ (number : ℕ). number < length t.rows) lead.start t.numbers numbered.within)
+
+  module _ (node : List ℕ) (step : ℕ) (lead : LeadRecord) (known : IsRecord p t (head_of p node) step lead) where
+    pub child_is : rows_of p (child node step) ≡ rows_of p node ++ map (at t.rows) (numbers_in lead)
+    child_is = child_rows p node step ∙ ap (λ rows. rows_of p node ++ rows) (sym known.are)
+
+    pub child_differs : rows_differ (rows_of p (child node step)) ≡ (rows_differ (rows_of p node) && (rows_differ (map (at t.rows) (numbers_in lead)) && not (list_any (is_listed (rows_of p node)) (map (at t.rows) (numbers_in lead)))))
+    child_differs = ap rows_differ child_is ∙ differ_joined (rows_of p node) (map (at t.rows) (numbers_in lead))
+
+    node_differs : rows_differ (rows_of p (child node step)) ≡ true → rows_differ (rows_of p node) ≡ true
+    node_differs differ = (and_parts (rows_differ (rows_of p node)) _ (sym child_differs ∙ differ)).0
+
+    none_again : rows_differ (rows_of p (child node step)) ≡ true → list_any (is_listed (rows_of p node)) (map (at t.rows) (numbers_in lead)) ≡ false
+    none_again differ =
+        let lead_rows = map (at t.rows) (numbers_in lead) in
+        let (one, rest) = and_parts (rows_differ (rows_of p node)) (rows_differ lead_rows && not (list_any (is_listed (rows_of p node)) lead_rows)) (sym child_differs ∙ differ) in
+        let (two, three) = and_parts (rows_differ lead_rows) (not (list_any (is_listed (rows_of p node)) lead_rows)) rest in
+        not-true (list_any (is_listed (rows_of p node)) lead_rows) three
+
+-- where the rows of a node differ, all of its leads are kept
+pub all_fresh : (p : ProblemParts) (t : NumberParts) (node : List ℕ) (marks : List Bool) (fresh : ℕ) → AreMarked p t node marks fresh → rows_differ (rows_of p node) ≡ true → fresh ≡ length node
+all_fresh p t node marks fresh are differ = elim (cases_eq fresh (length node)) [
+  | inl all ↦ all
+  | inr some ↦ absurd (false≢true (sym (are.again (omega (arith, are.within, some))) ∙ leads_differ p node (fresh + 1) differ))
+]
+
+-- and their rows are marked
+pub marks_of : (p : ProblemParts) (t : NumberParts) (node : List ℕ) (marks : List Bool) (fresh : ℕ) → AreMarked p t node marks fresh → fresh ≡ length node
+    → (number : ℕ) → number < length t.rows → get_or marks number false ≡ is_listed (rows_of p node) (get_or t.rows number [])
+marks_of p t node marks fresh are all number inside =
+    are.of number inside ∙ ap (λ word. is_listed (rows_of p word) (get_or t.rows number [])) (take_all fresh node (omega (arith, all)))
+
+-- a node brings a row again exactly where not all of its leads are kept
+pub repeat_told : (p : ProblemParts) (t : NumberParts) (node : List ℕ) (marks : List Bool) (fresh leads : ℕ) → AreMarked p t node marks fresh → leads ≡ length node →
+    not (nat_eq fresh leads) ≡ not (rows_differ (rows_of p node))
+repeat_told p t node marks fresh leads are is = elim (eqb_tells fresh leads) [
+  | inl e ↦ ap not (e.0 ∙ sym (ap (λ word. rows_differ (rows_of p word)) (sym (take_all fresh node (omega (arith, e.1, is)))) ∙ are.differ))
+  | inr e ↦
+      let again : rows_differ (rows_of p node) ≡ false =
+      false_from_ne_true (rows_differ (rows_of p node)) (λ differ. e.1 (all_fresh p t node marks fresh are differ ∙ sym is)) in
+      ap not (e.0 ∙ sym again)
+]
+
+module _ (p : ProblemParts) (t : NumberParts) (numbered : IsNumbered p t) (node : List ℕ) (step : ℕ) (lead : LeadRecord) (known : IsRecord p t (head_of p node) step lead) (numbers : List ℕ) (is : numbers ≡ numbers_in p t numbered lead) where
+  -- the marks of a child whose rows differ
+  module _ (marks next : List Bool) (fresh : ℕ) (are : AreMarked p t node marks fresh) (long : length next ≡ length marks) where
+    pub marked_more : rows_differ (rows_of p (child node step)) ≡ true → AreSet true numbers marks next → AreMarked p t (child node step) next (fresh + 1)
+    marked_more differ set =
+        let seen = rows_of p node in
+        let more = map (at t.rows) (numbers_in p t numbered lead) in
+        let all = all_fresh p t node marks fresh are (node_differs p t numbered node step lead known differ) in
+        let counted = child_counted node step in
+        let whole : take (fresh + 1) (child node step) ≡ child node step = take_all (fresh + 1) (child node step) (omega (arith, counted, all)) in
+        record {
+          within = omega (arith, counted, all);
+          counted = long ∙ are.counted;
+          of = λ number inside.
+              set number (omega (arith, are.counted, inside))
+              ∙ ap (λ ns. cond (list_any (nat_eq number) ns) true (get_or marks number false)) is
+              ∙ ap (λ b. cond b true (get_or marks number false)) (number_listed t.rows numbered.differ number (numbers_in p t numbered lead) inside (within_in p t numbered lead))
+              ∙ ap (cond (is_listed more (at t.rows number)) true) (marks_of p t node marks fresh are all number inside)
+              ∙ more_marked seen more (at t.rows number)
+              ∙ ap (λ rows. is_listed rows (at t.rows number)) (sym (child_is p t numbered node step lead known))
+              ∙ ap (λ word. is_listed (rows_of p word) (at t.rows number)) (sym whole);
+          differ = ap (λ word. rows_differ (rows_of p word)) whole ∙ differ;
+          again = λ low. absurd (omega (arith, low, counted, all));
+        }
+
+  -- the marks of a node, back from a child whose rows are all marked
+  module _ (marks next : List Bool) (fresh : ℕ) (are : AreMarked p t (child node step) marks fresh) (long : length next ≡ length marks) where
+    pub marked_less : fresh ≡ length (child node step) → AreSet false numbers marks next → AreMarked p t node next (length node)
+    marked_less all set =
+        let seen = rows_of p node in
+        let more = map (at t.rows) (numbers_in p t numbered lead) in
+        let whole : take fresh (child node step) ≡ child node step = take_all fresh (child node step) (omega (arith, all)) in
+        let differ : rows_differ (rows_of p (child node step)) ≡ true = ap (λ word. rows_differ (rows_of p word)) (sym whole) ∙ are.differ in
+        let front : take (length node) node ≡ node = take_all (length node) node (omega arith) in
+        record {
+          within = omega arith;
+          counted = long ∙ are.counted;
+          of = λ number inside.
+              set number (omega (arith, are.counted, inside))
+              ∙ ap (λ ns. cond (list_any (nat_eq number) ns) false (get_or marks number false)) is
+              ∙ ap (λ b. cond b false (get_or marks number false)) (number_listed t.rows numbered.differ number (numbers_in p t numbered lead) inside (within_in p t numbered lead))
+              ∙ ap (cond (is_listed more (at t.rows number)) false) (marks_of p t (child node step) marks fresh are all number inside)
+              ∙ ap (λ rows. cond (is_listed more (at t.rows number)) false (is_listed rows (at t.rows number))) (child_is p t numbered node step lead known)
+              ∙ fewer_marked seen more (at t.rows number) (none_again p t numbered node step lead known differ)
+              ∙ ap (λ word. is_listed (rows_of p word) (at t.rows number)) (sym front);
+          differ = ap (λ word. rows_differ (rows_of p word)) front ∙ node_differs p t numbered node step lead known differ;
+          again = λ low. absurd (omega (arith, low));
+        }
+
+module _ (p : ProblemParts) (t : NumberParts) (node : List ℕ) (step : ℕ) (marks : List Bool) (fresh : ℕ) where
+  -- the marks of a child with a row twice
+  pub marked_same : AreMarked p t node marks fresh → rows_differ (rows_of p (child node step)) ≡ false → AreMarked p t (child node step) marks fresh
+  marked_same are twice =
+      let counted = child_counted node step in
+      let front = child_before node step fresh are.within in
+      record {
+        within = omega (arith, counted, are.within);
+        counted = are.counted;
+        of = λ number inside. are.of number inside ∙ ap (λ word. is_listed (rows_of p word) (get_or t.rows number [])) (sym front);
+        differ = ap (λ word. rows_differ (rows_of p word)) front ∙ are.differ;
+        again = λ low. elim (cases_eq fresh (length node)) [
+          | inl all ↦ ap (λ word. rows_differ (rows_of p word)) (take_all (fresh + 1) (child node step) (omega (arith, counted, all))) ∙ twice
+          | inr some ↦
+              let few : fresh < length node = omega (arith, are.within, some) in
+              ap (λ word. rows_differ (rows_of p word)) (child_before node step (fresh + 1) (omega (arith, few))) ∙ are.again few
+        ];
+      }
+
+  -- and back from it
+  pub marked_stays : AreMarked p t (child node step) marks fresh → (fresh ≡ length (child node step) → ⊥) → AreMarked p t node marks fresh
+  marked_stays are some =
+      let counted = child_counted node step in
+      let within : fresh ≤ length node = omega (arith, are.within, some, counted) in
+      let front = child_before node step fresh within in
+      record {
+        within = within;
+        counted = are.counted;
+        of = λ number inside. are.of number inside ∙ ap (λ word. is_listed (rows_of p word) (get_or t.rows number [])) front;
+        differ = ap (λ word. rows_differ (rows_of p word)) (sym front) ∙ are.differ;
+        again = λ low. ap (λ word. rows_differ (rows_of p word)) (sym (child_before node step (fresh + 1) (omega (arith, low)))) ∙ are.again (omega (arith, low, counted));
+      }
+
+-- a lead more brings no row again, told by its numbers and the marks
+module _ (p : ProblemParts) (t : NumberParts) (numbered : IsNumbered p t) (node : List ℕ) (step : ℕ) (lead : LeadRecord) (known : IsRecord p t (head_of p node) step lead) (marks : List Bool) (fresh : ℕ) (are : AreMarked p t node marks fresh) (differ : rows_differ (rows_of p node) ≡ true)
+    (numbers : List ℕ) (is : numbers ≡ numbers_in p t numbered lead) where
+  new_told : (numbers_differ numbers && not (some_marked marks numbers)) ≡ rows_differ (rows_of p (child node step))
+  new_told =
+      let all = all_fresh p t node marks fresh are differ in
+      let rows = map (at t.rows) (numbers_in p t numbered lead) in
+      ap₂ (λ a b. a && not b)
+      (ap numbers_differ is ∙ they_differ t.rows numbered.differ (numbers_in p t numbered lead) (within_in p t numbered lead))
+      (ap (some_marked marks) is ∙ some_are t.rows (rows_of p node) marks (numbers_in p t numbered lead) (marks_of p t node marks fresh are all) (within_in p t numbered lead))
+      ∙ ap (λ b. b && (rows_differ rows && not (list_any (is_listed (rows_of p node)) rows))) (sym differ)
+      ∙ sym (child_differs p t numbered node step lead known)
+
+  pub new_by_marks : (different marked : Bool) → different ≡ numbers_differ numbers → different ≡ true → marked ≡ some_marked marks numbers → not marked ≡ rows_differ (rows_of p (child node step))
+  new_by_marks different marked one holds two = ap₂ (λ a b. a && not b) (sym holds ∙ one) two ∙ new_told
+
+  pub old_by_numbers : (different : Bool) → different ≡ numbers_differ numbers → different ≡ false → false ≡ rows_differ (rows_of p (child node step))
+  old_by_numbers different one twice = ap (λ a. a && not (some_marked marks numbers)) (sym twice ∙ one) ∙ new_told
+
+-- nor does a node above one that brings none
+pub old_below : (p : ProblemParts) (node : List ℕ) (step : ℕ) → rows_differ (rows_of p node) ≡ false → false ≡ rows_differ (rows_of p (child node step))
+old_below p node step twice =
+    sym (ap rows_differ (child_rows p node step) ∙ differ_joined (rows_of p node) (lead_from p (head_of p node) step)
+    ∙ ap (λ b. b && (rows_differ (lead_from p (head_of p node) step) && not (list_any (is_listed (rows_of p node)) (lead_from p (head_of p node) step)))) twice)

@@ -1,0 +1,120 @@
+-- Plain Bob Minimus by numbers.
+use Rattle.std.proofs.Common.{◌≡◌, ◌≢◌, ℕ, zero, suc, ◌+◌, ◌*◌, ◌<◌, ◌≤◌, ◌↔◌, true, not, ◌||◌, nat_lt, List, [], ◌∷◌, length, get_or, refl, sym, ap, ◌∙◌, arith, lit<, lit≤}
+use Rattle.std.specs.Prelude.{Contains}
+use Rattle.std.proofs.lemmas.Bool.Decides.{nat_tests, Decides-ltb}
+use Rattle.cr_model.specs.Problems.{QueryParts, ProblemParts}
+use Rattle.cr_model.specs.Callings.{AllDiffer}
+use Rattle.cr_model.specs.Queries.{extent}
+use Rattle.cr_model.specs.Decided.{rows_differ}
+use Rattle.cr_model.specs.Levels.{IsLevel, HasRoom, spread, level, up_to_level, depth, at_least}
+use Rattle.cr_model.specs.Sizes.{most_rows}
+use Rattle.cr_model.specs.Examples.{minimus, asks}
+use Rattle.cr_model.proofs.Deciding.{all_decided}
+use Rattle.cr_path.specs.Numbers.{IsRecord, IsNumbered}
+use Rattle.cr_path.specs.Examples.{lead_at, minimus_numbers, minimus_asked}
+use Rattle.cr_path.specs.declared.table.LeadRecord.{LeadRecord}
+
+-- the laws that this rests on
+pub record LevelLaws : Type 0 where
+  pub level : (p : ProblemParts) (leads : ℕ) (row : List ℕ) → Contains (level p leads) row ↔ IsLevel p leads row
+  pub listed : (p : ProblemParts) (most : ℕ) (row : List ℕ) (leads : ℕ) → IsLevel p leads row → leads ≤ depth p most → at_least p most row ≡ leads
+  pub greatest : (p : ProblemParts) (most leads : ℕ) → HasRoom p most leads → leads ≤ depth p most
+
+module _ (laws : LevelLaws) (query : QueryParts) where
+  abbrev p : ProblemParts
+  p = minimus_asked query
+
+  -- the three levels of one row each have room
+  some_rows : (number : ℕ) → number ≤ 2 → level p number ≢ []
+  unfolding spread
+  some_rows zero low none = cc
+  some_rows (suc zero) low none = cc
+  some_rows (suc (suc zero)) low none = cc
+  some_rows (suc (suc (suc number))) low none = absurd (omega arith)
+
+  few_rows : length (up_to_level p 2) ≤ most_rows
+  unfolding spread most_rows
+  few_rows = lit≤ tt
+
+  is_deep : 2 ≤ depth p most_rows
+  is_deep = laws.greatest p most_rows 2 (record { rows = some_rows; few = few_rows })
+
+  -- how far the heads are from home
+  two_away : at_least p most_rows (1 ∷ 3 ∷ 4 ∷ 2 ∷ []) ≡ 2
+  unfolding spread
+  two_away = laws.listed p most_rows (1 ∷ 3 ∷ 4 ∷ 2 ∷ []) 2 ((laws.level p 2 (1 ∷ 3 ∷ 4 ∷ 2 ∷ [])).0 (0, lit< tt, refl)) is_deep
+
+  pub one_away : at_least p most_rows (1 ∷ 4 ∷ 2 ∷ 3 ∷ []) ≡ 1
+  unfolding spread
+  one_away = laws.listed p most_rows (1 ∷ 4 ∷ 2 ∷ 3 ∷ []) 1 ((laws.level p 1 (1 ∷ 4 ∷ 2 ∷ 3 ∷ [])).0 (0, lit< tt, refl)) (omega (arith, is_deep))
+
+  at_home : at_least p most_rows (1 ∷ 2 ∷ 3 ∷ 4 ∷ []) ≡ 0
+  unfolding spread
+  at_home = laws.listed p most_rows (1 ∷ 2 ∷ 3 ∷ 4 ∷ []) 0 ((laws.level p 0 (1 ∷ 2 ∷ 3 ∷ 4 ∷ [])).0 (0, lit< tt, refl)) (omega arith)
+
+-- below which length a lead of eight changes may be rung, with home two leads, one or none from its end
+below_1 : (rung : ℕ) → nat_lt rung 1 ≡ not (nat_lt 24 (rung + 8) || nat_lt 24 (rung + 8 + 8 * 2))
+below_1 rung = grind (arith, nat_tests)
+
+below_9 : (rung : ℕ) → nat_lt rung 9 ≡ not (nat_lt 24 (rung + 8) || nat_lt 24 (rung + 8 + 8 * 1))
+below_9 rung = grind (arith, nat_tests)
+
+below_17 : (rung : ℕ) → nat_lt rung 17 ≡ not (nat_lt 24 (rung + 8) || nat_lt 24 (rung + 8 + 8 * 0))
+below_17 rung = grind (arith, nat_tests)
+
+module _ (laws : LevelLaws) (differ : (rows : List (List ℕ)) → (rows_differ rows ≡ true) ↔ AllDiffer rows) where
+  first : IsRecord minimus minimus_numbers (1 ∷ 2 ∷ 3 ∷ 4 ∷ []) 0 (lead_at 1 1 0 8)
+  unfolding extent
+  first = record {
+    next = lit< tt;
+    leads_to = refl;
+    limit = λ rung. below_1 rung
+        ∙ ap (λ (leads : ℕ). not (nat_lt 24 (rung + 8) || nat_lt 24 (rung + 8 + 8 * leads))) (sym (two_away laws (asks 1 24 1)));
+    start = lit≤ tt;
+    end = lit≤ tt;
+    are = refl;
+  }
+
+  second : IsRecord minimus minimus_numbers (1 ∷ 3 ∷ 4 ∷ 2 ∷ []) 0 (lead_at 2 9 8 16)
+  unfolding extent
+  second = record {
+    next = lit< tt;
+    leads_to = refl;
+    limit = λ rung. below_9 rung
+        ∙ ap (λ (leads : ℕ). not (nat_lt 24 (rung + 8) || nat_lt 24 (rung + 8 + 8 * leads))) (sym (one_away laws (asks 1 24 1)));
+    start = lit≤ tt;
+    end = lit≤ tt;
+    are = refl;
+  }
+
+  third : IsRecord minimus minimus_numbers (1 ∷ 4 ∷ 2 ∷ 3 ∷ []) 0 (lead_at 0 17 16 24)
+  unfolding extent
+  third = record {
+    next = lit< tt;
+    leads_to = refl;
+    limit = λ rung. below_17 rung
+        ∙ ap (λ (leads : ℕ). not (nat_lt 24 (rung + 8) || nat_lt 24 (rung + 8 + 8 * leads))) (sym (at_home laws (asks 1 24 1)));
+    start = lit≤ tt;
+    end = lit≤ tt;
+    are = refl;
+  }
+
+  each : (head step : ℕ) (d : LeadRecord) → head < 3 → step < 1
+      → IsRecord minimus minimus_numbers (get_or minimus_numbers.heads head []) step (get_or minimus_numbers.records (head * 1 + step) d)
+  each zero zero d head_in step_in = first
+  each (suc zero) zero d head_in step_in = second
+  each (suc (suc zero)) zero d head_in step_in = third
+  each (suc (suc (suc head))) zero d head_in step_in = absurd (omega arith)
+  each head (suc step) d head_in step_in = absurd (omega arith)
+
+  pub numbered : IsNumbered minimus minimus_numbers
+  numbered = record {
+    counted = refl;
+    some_head = lit< tt;
+    first_head = refl;
+    some_row = lit< tt;
+    first_row = refl;
+    differ = (differ minimus_numbers.rows).0 refl;
+    within = (all_decided (λ (n : ℕ). nat_lt n 24) (λ (n : ℕ). n < 24) (λ n. Decides-ltb n 24) minimus_numbers.numbers).0 refl;
+    each = each;
+  }

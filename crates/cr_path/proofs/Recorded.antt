@@ -1,0 +1,186 @@
+-- Records of leads, and how numbers of a problem grow by one.
+use Rattle.std.proofs.Common.{◌≡◌, ℕ, ◌+◌, ◌-◌, ◌*◌, ◌<◌, ◌≤◌, Bool, not, ◌&&◌, ◌||◌, nat_lt, nat_eq, List, [], ◌∷◌, ◌++◌, length, get_or, map, take, drop, inl, inr, refl, sym, ap, ap₂, ◌∙◌, subst, arith, length-append}
+use Rattle.std.specs.Prelude.{All}
+use Rattle.std.specs.Cmp.Lexicographic.{pointwise}
+use Rattle.std.specs.List.{list_any}
+use Rattle.std.proofs.lemmas.Bool.{cases_eq, cases_lt}
+use Rattle.std.proofs.lemmas.Bool.Decides.{same_from_decides, Decides-like, Decides-eqb}
+use Rattle.std.proofs.lemmas.Slice.Eq.{bytes_eq-Decides}
+use Rattle.std.proofs.lemmas.Nat.{same_from_place, row_fits}
+use Rattle.std.proofs.lemmas.List.{take-map, drop-map, length-map, get_or_append_left, get_or_push, drop-append-le, take-append-le, length-drop, drop_at, take_all}
+use Rattle.std.proofs.lemmas.List.Elements.{All-head, All-tail, All-take, All-drop, All-append, All-same}
+use Rattle.cr_row.specs.Rows.{rounds}
+use Rattle.cr_model.specs.Problems.{ProblemParts}
+use Rattle.cr_model.specs.Dead.{parts_of, has_rounds}
+use Rattle.cr_rowset.specs.Stacks.{AllDiffer}
+use Rattle.cr_path.specs.Numbers.{NumberParts, lead_from, head_after, brings_home, dies_after, IsRecord, IsNumbered}
+use Rattle.cr_path.specs.Numbering.{IsKept, HasNumber, AreNumbered, IsBegun}
+use Rattle.cr_path.specs.Leads.{has_first}
+use Rattle.cr_path.specs.declared.table.LeadRecord.{LeadRecord}
+use Rattle.cr_path.proofs.Places.{record_within}
+use Rattle.cr_path.proofs.Grown.{kept_by, heads_more, same_rows, all_kept}
+
+-- rounds stands among rows exactly where number 0 does among their numbers
+module _ (p : ProblemParts) (rows : List (List ℕ)) (some : 0 < length rows) (first : get_or rows 0 [] ≡ rounds p.stage) (differ : AllDiffer rows) where
+  abbrev at : ℕ → List ℕ
+  at number = get_or rows number []
+
+  one_first : (number : ℕ) → number < length rows → nat_eq 0 number ≡ pointwise nat_eq (rounds p.stage) (at number)
+  one_first number low = same_from_decides (nat_eq 0 number) (pointwise nat_eq (rounds p.stage) (at number)) (Decides-eqb 0 number)
+      (Decides-like (pointwise nat_eq (rounds p.stage) (at number))
+      (λ same. elim (cases_eq 0 number) [
+        | inl zero ↦ zero
+        | inr away ↦ absurd (differ 0 number (omega (arith, away)) low (first ∙ same))
+      ])
+      (λ zero. sym first ∙ ap at zero)
+      (bytes_eq-Decides (rounds p.stage) (at number)))
+
+  some_first : (numbers : List ℕ) → All (λ number. number < length rows) numbers → list_any (nat_eq 0) numbers ≡ has_rounds p (map at numbers)
+  some_first [] all = refl
+  some_first (number ∷ numbers) all =
+      ap₂ (λ (a b : Bool). a || b)
+      (one_first number (All-head (λ n. n < length rows) number numbers all))
+      (some_first numbers (All-tail (λ n. n < length rows) number numbers all))
+
+  pub first_told : (numbers : List ℕ) → All (λ number. number < length rows) numbers → has_first p numbers ≡ brings_home p (map at numbers)
+  first_told numbers all =
+      let place : length (map at numbers) ≡ length numbers = length-map numbers at in
+      let front : list_any (nat_eq 0) (take (length numbers - 1) numbers) ≡ has_rounds p (take (length (map at numbers) - 1) (map at numbers)) =
+      some_first (take (length numbers - 1) numbers) (All-take (λ n. n < length rows) (length numbers - 1) numbers all)
+      ∙ ap (has_rounds p) (sym (take-map at (length numbers - 1) numbers) ∙ ap (λ n. take (n - 1) (map at numbers)) (sym place)) in
+      let back : list_any (nat_eq 0) (drop (length numbers - 1) numbers) ≡ has_rounds p (drop (length (map at numbers) - 1) (map at numbers)) =
+      some_first (drop (length numbers - 1) numbers) (All-drop (λ n. n < length rows) (length numbers - 1) numbers all)
+      ∙ ap (has_rounds p) (sym (drop-map at (length numbers - 1) numbers) ∙ ap (λ n. drop (n - 1) (map at numbers)) (sym place)) in
+      ap₂ (λ (a b : Bool). a || (b && nat_lt 1 (parts_of p))) front back
+
+-- whether rows that were numbered bring rounds too early
+pub home_told : (p : ProblemParts) (old new : NumberParts) (done start : ℕ) (rung : List (List ℕ)) → IsBegun p old done
+    → AreNumbered old.rows old.numbers rung new.rows new.numbers → AllDiffer new.rows → start ≡ length old.numbers
+    → has_first p (drop start new.numbers) ≡ brings_home p rung
+home_told p old new done start rung begun are differ start_is =
+    ap (λ (ns : List ℕ). has_first p (drop start ns)) are.joined
+    ∙ ap (has_first p) (drop_at old.numbers are.more start (sym start_is))
+    ∙ first_told p new.rows (omega (arith, begun.some_row, are.kept.long)) (are.kept.same 0 begun.some_row ∙ begun.first_row) differ are.more are.within
+    ∙ ap (brings_home p) are.are
+
+-- a record stays one while heads, rows and numbers are added
+pub record_kept : (p : ProblemParts) (old new : NumberParts) (more head : List ℕ) (step : ℕ) (lead : LeadRecord) → IsKept old.heads new.heads
+    → IsKept old.rows new.rows → new.numbers ≡ old.numbers ++ more → All (λ number. number < length old.rows) old.numbers
+    → IsRecord p old head step lead → IsRecord p new head step lead
+record_kept p old new more head step lead heads rows numbers all is =
+    let from : lead.start ≤ length old.numbers = omega (arith, is.start, is.end) in
+    let to : lead.end - lead.start ≤ length (drop lead.start old.numbers) = omega (arith, is.start, is.end, length-drop lead.start old.numbers) in
+    let mine : take (lead.end - lead.start) (drop lead.start new.numbers) ≡ take (lead.end - lead.start) (drop lead.start old.numbers) =
+    ap (λ (ns : List ℕ). take (lead.end - lead.start) (drop lead.start ns)) numbers
+    ∙ ap (take (lead.end - lead.start)) (drop-append-le lead.start old.numbers more from)
+    ∙ take-append-le (lead.end - lead.start) (drop lead.start old.numbers) more to in
+    record {
+      next = omega (arith, is.next, heads.long);
+      leads_to = heads.same lead.next is.next ∙ is.leads_to;
+      limit = is.limit;
+      start = is.start;
+      end = omega (arith, is.end, ap length numbers, length-append old.numbers more);
+      are = ap (map (λ number. get_or new.rows number [])) mine
+          ∙ same_rows old.rows new.rows (take (lead.end - lead.start) (drop lead.start old.numbers)) rows
+          (All-take (λ n. n < length old.rows) (lead.end - lead.start) (drop lead.start old.numbers)
+          (All-drop (λ n. n < length old.rows) lead.start old.numbers all))
+          ∙ is.are;
+    }
+
+-- a lead that is rung from a head, its rows and the head after it with their numbers
+pub record IsRungLead (p : ProblemParts) (old new : NumberParts) (head : List ℕ) (step : ℕ) (lead : LeadRecord) : Type 0 where
+  pub steps : new.steps ≡ old.steps
+  pub rows : AreNumbered old.rows old.numbers (lead_from p head step) new.rows new.numbers
+  pub differ : AllDiffer new.rows
+  pub next : HasNumber old.heads (head_after p head step) lead.next new.heads
+  pub long : length (head_after p head step) ≡ p.stage
+  pub start : lead.start ≡ length old.numbers
+  pub end : lead.end ≡ length new.numbers
+  pub limit : (rung : ℕ) → nat_lt rung lead.limit ≡ not (dies_after p head step rung)
+  pub records : new.records ≡ old.records ++ lead ∷ []
+
+-- it is a record
+pub rung_record : (p : ProblemParts) (old new : NumberParts) (head : List ℕ) (step : ℕ) (lead : LeadRecord) → IsRungLead p old new head step lead
+    → IsRecord p new head step lead
+rung_record p old new head step lead is =
+    let long : length new.numbers ≡ length old.numbers + length is.rows.more = ap length is.rows.joined ∙ length-append old.numbers is.rows.more in
+    let mine : take (lead.end - lead.start) (drop lead.start new.numbers) ≡ is.rows.more =
+    ap (λ (ns : List ℕ). take (lead.end - lead.start) (drop lead.start ns)) is.rows.joined
+    ∙ ap (take (lead.end - lead.start)) (drop_at old.numbers is.rows.more lead.start (sym is.start))
+    ∙ take_all (lead.end - lead.start) is.rows.more (omega (arith, is.start, is.end, long)) in
+    record {
+      next = is.next.stands.within;
+      leads_to = is.next.stands.is;
+      limit = is.limit;
+      start = omega (arith, is.start, is.end, long);
+      end = omega (arith, is.end);
+      are = ap (map (λ number. get_or new.rows number [])) mine ∙ is.rows.are;
+    }
+
+-- an earlier place is of a head that is there
+row_inside : (other its place step heads steps : ℕ) → place < heads → step < steps → other * steps + its < place * steps + step → other < heads
+row_inside other its place step heads steps place_in step_in earlier = elim (cases_lt other heads) [
+  | inl inside ↦ inside
+  | inr beyond ↦
+      let whole : place * steps + steps ≤ other * steps = row_fits place steps other steps (omega arith) (omega arith) in
+      absurd (omega (arith, whole, earlier, step_in))
+]
+
+-- with it the numbers have one record more
+pub begun_more : (p : ProblemParts) (old new : NumberParts) (place step done : ℕ) (lead : LeadRecord) → IsBegun p old done
+    → done ≡ place * old.steps + step → place < length old.heads → step < old.steps
+    → IsRungLead p old new (get_or old.heads place []) step lead → IsBegun p new (done + 1)
+begun_more p old new place step done lead begun at place_in step_in is =
+    let heads : IsKept old.heads new.heads = kept_by old.heads new.heads (head_after p (get_or old.heads place []) step) lead.next is.next in
+    let rows = is.rows.kept in
+    record {
+      counted = is.steps ∙ begun.counted;
+      heads = heads_more p old.heads new.heads (head_after p (get_or old.heads place []) step) lead.next begun.heads is.next is.long;
+      some_row = omega (arith, begun.some_row, rows.long);
+      first_row = rows.same 0 begun.some_row ∙ begun.first_row;
+      differ = is.differ;
+      within = All-same (λ n. n < length new.rows) new.numbers (old.numbers ++ is.rows.more) is.rows.joined
+          (All-append (λ n. n < length new.rows) old.numbers is.rows.more (all_kept old.rows new.rows old.numbers rows begun.within) is.rows.within);
+      recorded = ap length is.records ∙ length-append old.records (lead ∷ []) ∙ ap (λ n. n + 1) begun.recorded;
+      each = λ other its d head_in its_in low.
+          let known : its < old.steps = omega (arith, its_in, is.steps) in
+          let index : other * new.steps + its ≡ other * old.steps + its = ap (λ n. other * n + its) is.steps in
+          elim (cases_eq (other * old.steps + its) done) [
+            | inl last ↦
+                let same = same_from_place other its place step old.steps known step_in (last ∙ at) in
+                let here : lead ≡ get_or new.records (other * new.steps + its) d =
+                sym (ap₂ (λ (xs : List LeadRecord) (n : ℕ). get_or xs n d) is.records (index ∙ last)
+                ∙ get_or_push old.records lead d done begun.recorded) in
+                let from : get_or old.heads place [] ≡ get_or new.heads other [] =
+                sym (heads.same place place_in) ∙ ap (λ n. get_or new.heads n []) (sym same.0) in
+                subst (λ (r : LeadRecord). IsRecord p new (get_or new.heads other []) its r) here
+                (subst (λ (h : List ℕ). IsRecord p new h its lead) from
+                (subst (λ (s : ℕ). IsRecord p new (get_or old.heads place []) s lead) (sym same.1)
+                (rung_record p old new (get_or old.heads place []) step lead is)))
+            | inr earlier ↦
+                let below : other * old.steps + its < done = omega (arith, low, index, earlier) in
+                let inside : other < length old.heads = row_inside other its place step (length old.heads) old.steps place_in step_in (omega (arith, below, at)) in
+                let here : get_or old.records (other * old.steps + its) d ≡ get_or new.records (other * new.steps + its) d =
+                sym (ap₂ (λ (xs : List LeadRecord) (n : ℕ). get_or xs n d) is.records index
+                ∙ get_or_append_left old.records (lead ∷ []) d (other * old.steps + its) (omega (arith, below, begun.recorded))) in
+                let from : get_or old.heads other [] ≡ get_or new.heads other [] = sym (heads.same other inside) in
+                subst (λ (r : LeadRecord). IsRecord p new (get_or new.heads other []) its r) here
+                (subst (λ (h : List ℕ). IsRecord p new h its (get_or old.records (other * old.steps + its) d)) from
+                (record_kept p old new is.rows.more (get_or old.heads other []) its (get_or old.records (other * old.steps + its) d) heads rows
+                is.rows.joined begun.within (begun.each other its d inside known below)))
+          ];
+    }
+
+-- with a record of each lead they are numbers of the problem
+pub numbered_whole : (p : ProblemParts) (t : NumberParts) (done : ℕ) → IsBegun p t done → done ≡ length t.heads * t.steps → IsNumbered p t
+numbered_whole p t done begun all = record {
+  counted = begun.counted;
+  some_head = begun.heads.some;
+  first_head = begun.heads.first;
+  some_row = begun.some_row;
+  first_row = begun.first_row;
+  differ = begun.differ;
+  within = begun.within;
+  each = λ head step d head_in step_in. begun.each head step d head_in step_in
+      (omega (arith, all, record_within head step (length t.heads) t.steps head_in step_in));
+}

@@ -1,0 +1,11 @@
+pub mod Numbers
+pub mod Ends
+pub mod Marks
+pub mod Numbering
+pub mod Facts
+pub mod Leads
+pub mod Begun
+pub mod Examples
+pub mod Walks
+pub mod Living
+pub mod Parts

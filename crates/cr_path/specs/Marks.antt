@@ -1,0 +1,39 @@
+-- Marks of numbered rows.
+use Rattle.std.specs.Prelude.{◌≡◌, ℕ, ◌+◌, ◌<◌, ◌≤◌, Bool, true, false, cond, not, ◌&&◌, nat_eq, List, [], ◌∷◌, length, get_or, take}
+use Rattle.std.specs.List.{list_any}
+use Rattle.cr_model.specs.Problems.{ProblemParts}
+use Rattle.cr_model.specs.Callings.{rows_of}
+use Rattle.cr_model.specs.Decided.{rows_differ}
+use Rattle.cr_model.specs.Levels.{is_listed}
+use Rattle.cr_path.specs.Numbers.{NumberParts}
+
+-- of each numbered row whether it is marked, and how many leads have their rows marked
+pub record MarksParts : Type 0 where
+  pub marks : List Bool
+  pub fresh : ℕ
+
+-- one of the numbers is marked
+abbrev pub some_marked : List Bool → List ℕ → Bool
+some_marked marks numbers = list_any (λ number. get_or marks number false) numbers
+
+-- the marks after those of some numbers were set
+abbrev pub AreSet : Bool → List ℕ → List Bool → List Bool → Type 0
+AreSet mark numbers old new =
+    (number : ℕ) → number < length old → get_or new number false ≡ cond (list_any (nat_eq number) numbers) mark (get_or old number false)
+
+-- no number stands twice
+abbrev pub numbers_differ : List ℕ → Bool
+numbers_differ [] = true
+numbers_differ (number ∷ numbers) = not (list_any (nat_eq number) numbers) && numbers_differ numbers
+
+-- the marked rows are these
+abbrev pub AreOf : NumberParts → List (List ℕ) → List Bool → Type 0
+AreOf t rows marks = (number : ℕ) → number < length t.rows → get_or marks number false ≡ is_listed rows (get_or t.rows number [])
+
+-- the rows of a node's first leads are marked, of as many as bring no row again: the next lead, if there is one, brings one
+pub record AreMarked (p : ProblemParts) (t : NumberParts) (node : List ℕ) (marks : List Bool) (fresh : ℕ) : Type 0 where
+  pub within : fresh ≤ length node
+  pub counted : length marks ≡ length t.rows
+  pub of : AreOf t (rows_of p (take fresh node)) marks
+  pub differ : rows_differ (rows_of p (take fresh node)) ≡ true
+  pub again : fresh < length node → rows_differ (rows_of p (take (fresh + 1) node)) ≡ false

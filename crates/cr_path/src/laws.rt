@@ -1,0 +1,37 @@
+//! Worked examples: literals at the edges of the definitions. Each function does nothing: its contract is the law.
+
+ghost use Rattle.std.specs.Prelude.{◌≡◌, true, false, [], ◌∷◌, map};
+ghost use Rattle.cr_row.specs.Rows.{rounds};
+ghost use Rattle.cr_model.specs.Examples.{minimus, faulty, asks};
+ghost use Rattle.cr_path.specs.Numbers.{lead_from, brings_home, dies_after, IsNumbered};
+ghost use Rattle.cr_path.specs.Examples.{minimus_numbers, minimus_asked};
+
+use cr_model::laws::{
+    a_test_decides_what_is_true, levels_list_rows, no_fewer_leads_lead_home, the_depth_is_greatest,
+};
+
+/// The heads, the rows and the records of Plain Bob Minimus, each limit with the way home.
+pub fn plain_bob_minimus_has_its_numbers()
+    ensures { IsNumbered minimus minimus_numbers }
+{
+    a_test_decides_what_is_true();
+    levels_list_rows();
+    no_fewer_leads_lead_home();
+    the_depth_is_greatest();
+}
+
+/// In two parts of Plain Bob Minimus, of at most 12 changes each, a lead may follow four changes and not five. Rounds
+/// as its last row is too early where there are several parts, and rounds as its last row but one always is. After no
+/// change a lead with a row twice is dead too.
+pub fn leads_die_at_the_edges()
+    ensures long { map (dies_after (minimus_asked (asks 1 24 2)) (1 ∷ 3 ∷ 4 ∷ 2 ∷ []) 0) (4 ∷ 5 ∷ []) ≡ false ∷ true ∷ [] }
+    ensures home_last { map (λ parts. brings_home (minimus_asked (asks 1 24 parts)) (lead_from minimus (1 ∷ 4 ∷ 2 ∷ 3 ∷ []) 0)) (1 ∷ 2 ∷ [])
+        ≡ false ∷ true ∷ [] }
+    ensures home_before { brings_home (faulty (asks 1 24 1)) (lead_from (faulty (asks 1 24 1)) (rounds 4) 1) ≡ true }
+    ensures away { brings_home (faulty (asks 1 24 1)) (lead_from (faulty (asks 1 24 1)) (1 ∷ 3 ∷ 4 ∷ 2 ∷ []) 1) ≡ false }
+    ensures twice { dies_after (faulty (asks 1 24 1)) (1 ∷ 3 ∷ 4 ∷ 2 ∷ []) 2 0 ≡ true }
+{
+    levels_list_rows();
+    no_fewer_leads_lead_home();
+    the_depth_is_greatest();
+}

@@ -1,0 +1,374 @@
+ghost use Rattle.std.specs.Prelude.{◌≡◌, IfOk};
+ghost use Rattle.cr_leads.specs.Tables.{lead_table};
+ghost use Rattle.cr_path.specs.Numbers.{IsNumbered};
+
+use super::*;
+use cr_leads::Rung;
+use cr_model::Cell::Bell;
+use cr_model::{Calling, Cell, Com, Count, Lead, Pattern, Query, Step};
+use cr_reach::ReachTable;
+use cr_row::{Change, Stage};
+use std::test::*;
+
+// A problem in short: of each lead the method, the mark and the changes, by the places made or `x` for none. At
+// least one row fits the cells, where there are some.
+#[derive(Clone, Copy)]
+struct Draft {
+    stage: u8,
+    letters: &'static [u8],
+    leads: &'static [(u8, u8, &'static [u8])],
+    min: i64,
+    max: i64,
+    parts: i64,
+    counts: &'static [Count],
+    cells: &'static [Cell],
+    com: Option<Com>,
+}
+
+// Plain Bob Doubles: p and b.
+const DOUBLES: Draft = Draft {
+    stage: 5,
+    letters: b"A",
+    leads: &[
+        (0, b'p', b"5.1.5.1.5.1.5.1.5.125"),
+        (0, b'b', b"5.1.5.1.5.1.5.1.5.145"),
+    ],
+    min: 1,
+    max: 120,
+    parts: 1,
+    counts: &[],
+    cells: &[],
+    com: None,
+};
+
+const TWO_PARTS: Draft = Draft {
+    parts: 2,
+    ..DOUBLES
+};
+
+const THREE_PARTS: Draft = Draft {
+    parts: 3,
+    ..DOUBLES
+};
+
+const NO_BOBS: Draft = Draft {
+    counts: &[Count {
+        mark: b'b',
+        min: 0,
+        max: 0,
+    }],
+    ..DOUBLES
+};
+
+const ASKED: Draft = Draft {
+    min: 60,
+    max: 60,
+    cells: &[Bell(1), Bell(4), Bell(2), Bell(5), Bell(3)],
+    ..DOUBLES
+};
+
+// Plain Bob Minimus with a call that makes all places: p and s.
+const MINIMUS: Draft = Draft {
+    stage: 4,
+    leads: &[
+        (0, b'p', b"x.14.x.14.x.14.x.12"),
+        (0, b's', b"x.14.x.14.x.14.x.1234"),
+    ],
+    max: 24,
+    ..DOUBLES
+};
+
+// Two methods of the same changes, which change at least once.
+const CHANGING: Draft = Draft {
+    letters: b"AC",
+    leads: &[
+        (0, b'p', b"x.14.x.14.x.14.x.12"),
+        (1, b'p', b"x.14.x.14.x.14.x.12"),
+    ],
+    com: Some(Com {
+        min: 1,
+        max: 12_000,
+    }),
+    ..MINIMUS
+};
+
+fn changes_of(alloc: Global, stage: Stage, text: &[u8]) -> Result<Vec<Change>, Fail> {
+    let mut changes = Vec::new(alloc);
+    for group in text.split(|byte| *byte == b'.') {
+        let mut places = Vec::new(alloc);
+        for byte in group {
+            if *byte != b'x' {
+                places.push(byte.saturating_sub(b'0'))?;
+            }
+        }
+        let change = Change::from_places(stage, &places).ok();
+        changes.push(change.ok_or("the places are those of a change")?)?;
+    }
+    Ok(changes)
+}
+
+fn query_of(alloc: Global, draft: &Draft) -> Result<Query, Fail> {
+    let mut patterns = Vec::new(alloc);
+    if !draft.cells.is_empty() {
+        patterns.push(Pattern {
+            cells: draft.cells.to_vec(alloc)?,
+            min: 1,
+            max: 12_000,
+        })?;
+    }
+    Ok(Query {
+        min: draft.min,
+        max: draft.max,
+        parts: draft.parts,
+        counts: draft.counts.to_vec(alloc)?,
+        method_counts: Vec::new(alloc),
+        patterns,
+        com: draft.com,
+    })
+}
+
+fn problem_of(alloc: Global, draft: &Draft) -> Result<Problem, Fail> {
+    let stage = Stage::new(draft.stage).ok_or("the stage is from 3 to 16")?;
+    let mut leads = Vec::new(alloc);
+    for (method, mark, text) in draft.leads {
+        let step = Step {
+            method: *method,
+            mark: *mark,
+        };
+        let changes = changes_of(alloc, stage, text)?;
+        leads.push(Lead { step, changes })?;
+    }
+    let letters = draft.letters.to_vec(alloc)?;
+    match Problem::new(stage, letters, leads, query_of(alloc, draft)?) {
+        Ok(problem) => Ok(problem),
+        Err(_) => Err(Fail::from("the parts are refused")),
+    }
+}
+
+fn leads_of(alloc: Global, problem: &Problem) -> Result<LeadTable, Fail>
+    ensures { IfOk result (λ leads. leads ≡ lead_table problem.now) }
+{
+    match LeadTable::new(alloc, problem) {
+        Ok(leads) => Ok(leads),
+        Err(_) => Err(Fail::from("there is memory")),
+    }
+}
+
+#[tactic(auto, unfolding(cr_model::specs::Sizes::most_rows))]
+fn numbers_of(alloc: Global, problem: &Problem, leads: &LeadTable) -> Result<NumberTable, Fail>
+    requires { leads.now ≡ lead_table problem.now }
+    ensures { IfOk result (λ numbers. IsNumbered problem.now numbers) }
+{
+    let reach = match ReachTable::new(alloc, leads, 200_000) {
+        Ok(reach) => reach,
+        Err(_) => return Err(Fail::from("there is memory")),
+    };
+    match NumberTable::new(alloc, problem, leads, &reach, 1_000) {
+        Ok(Some(numbers)) => Ok(numbers),
+        Ok(None) => Err(Fail::from("there are few heads")),
+        Err(_) => Err(Fail::from("there is memory")),
+    }
+}
+
+fn walk_of<'a>(
+    alloc: Global,
+    problem: &'a Problem,
+    leads: &'a LeadTable,
+    numbers: &'a NumberTable,
+) -> Result<NumberWalk<'a>, Fail>
+    requires leads { leads.now ≡ lead_table problem.now }
+    requires numbers { IsNumbered problem.now numbers.now }
+    ensures { IfOk result (λ walk. walk.problem ≡ problem.now) }
+{
+    match NumberWalk::new(alloc, problem, leads, numbers) {
+        Ok(walk) => Ok(walk),
+        Err(_) => Err(Fail::from("there is memory")),
+    }
+}
+
+fn ring(alloc: Global, leads: &LeadTable, steps: &[u8]) -> Result<Rung, Fail> {
+    let Ok(calling) = Calling::new(steps.to_vec(alloc)?) else {
+        return Err(Fail::from("the calling is short"));
+    };
+    if !calling.steps().iter().all(|step| *step < leads.count()) {
+        return Err(Fail::from("a step does not exist"));
+    }
+    match leads.ring(alloc, &calling) {
+        Ok(rung) => Ok(rung),
+        Err(_) => Err(Fail::from("there is memory")),
+    }
+}
+
+// Whether a walk at a node tells what ringing the node afresh tells.
+fn tells_of(
+    alloc: Global,
+    leads: &LeadTable,
+    walk: &NumberWalk,
+    node: &[u8],
+) -> Result<bool, Fail> {
+    let rung = ring(alloc, leads, node)?;
+    Ok(
+        walk.steps() == node
+            && walk.length() == rung.rows.len() as u64
+            && walk.has_repeat() != rung.distinct
+            && rung.rows.last() == Some(&walk.head()),
+    )
+}
+
+// Goes to the first live child by a step from this one on.
+fn down(problem: &Problem, walk: &mut NumberWalk, from: u8) -> Option<u8>
+    requires { walk.old.problem ≡ problem.now }
+    ensures { walk.new.problem ≡ problem.now }
+{
+    let _ = walk.steps();
+    if usize::from(from) > problem.leads().len() {
+        return None;
+    }
+    match walk.go_down(from) {
+        Some(step) => Some(step),
+        None => None,
+    }
+}
+
+// Goes back, and gives the step to try next. None at the root.
+fn up(problem: &Problem, walk: &mut NumberWalk) -> Option<u8>
+    requires { walk.old.problem ≡ problem.now }
+    ensures { walk.new.problem ≡ problem.now }
+{
+    if walk.steps().is_empty() {
+        return None;
+    }
+    Some(walk.go_up().saturating_add(1))
+}
+
+// Goes to the node of another walk.
+fn follow(walk: &NumberWalk, other: &mut NumberWalk)
+    requires { other.old.problem ≡ walk.now.problem }
+    ensures { other.new.problem ≡ walk.now.problem }
+{
+    other.go_to(walk.steps());
+}
+
+// Visits each live node, goes to it with another walk too, and gives their number.
+fn visit_all(
+    alloc: Global,
+    problem: &Problem,
+    leads: &LeadTable,
+    walk: &mut NumberWalk,
+    other: &mut NumberWalk,
+) -> Result<u64, Fail>
+    requires walk { walk.old.problem ≡ problem.now }
+    requires other { other.old.problem ≡ problem.now }
+{
+    let mut nodes: u64 = 1;
+    let mut next = 0;
+    for _ in 0..1_000 {
+        if down(problem, walk, next).is_some() {
+            follow(walk, other);
+            if !tells_of(alloc, leads, walk, walk.steps())?
+                || !tells_of(alloc, leads, other, walk.steps())?
+            {
+                return Err(Fail::from("a walk says something else of a node"));
+            }
+            nodes = nodes.saturating_add(1);
+            next = 0;
+        } else {
+            match up(problem, walk) {
+                Some(step) => next = step,
+                None => return Ok(nodes),
+            }
+        }
+    }
+    Err(Fail::from("the tree has an end"))
+}
+
+fn live_nodes(alloc: Global, draft: &Draft) -> Result<u64, Fail> {
+    let problem = problem_of(alloc, draft)?;
+    let leads = leads_of(alloc, &problem)?;
+    let numbers = numbers_of(alloc, &problem, &leads)?;
+    let mut walk = walk_of(alloc, &problem, &leads, &numbers)?;
+    let mut other = walk_of(alloc, &problem, &leads, &numbers)?;
+    visit_all(alloc, &problem, &leads, &mut walk, &mut other)
+}
+
+// As many as the turns that a whole search takes.
+const TREES: [(&str, Draft, u64); 7] = [
+    ("Doubles", DOUBLES, 32),
+    ("in two parts", TWO_PARTS, 18),
+    ("in three parts", THREE_PARTS, 11),
+    ("without bobs", NO_BOBS, 5),
+    ("with a row", ASKED, 20),
+    ("Minimus", MINIMUS, 4),
+    ("two methods", CHANGING, 13),
+];
+
+#[test]
+fn live_nodes_of_trees(rt: HostRuntime) -> Result<(), Fail> {
+    for (name, draft, nodes) in TREES {
+        if live_nodes(rt.alloc(), &draft)? != nodes {
+            return Err(Fail::from(name));
+        }
+    }
+    Ok(())
+}
+
+// Goes to a node, if it is no longer than a part may be, and says whether the walk tells of it what ringing does.
+fn goes_to(
+    alloc: Global,
+    problem: &Problem,
+    leads: &LeadTable,
+    walk: &mut NumberWalk,
+    node: &[u8],
+) -> Result<bool, Fail>
+    requires { walk.old.problem ≡ problem.now }
+    ensures { walk.new.problem ≡ problem.now }
+{
+    if !problem.has_steps(node) {
+        return Err(Fail::from("a step does not exist"));
+    }
+    let Ok(calling) = Calling::new(node.to_vec(alloc)?) else {
+        return Err(Fail::from("the calling is short"));
+    };
+    if problem.length_of(&calling) > problem.part_cap() {
+        return Err(Fail::from("the node is long"));
+    }
+    walk.go_to(calling.steps());
+    tells_of(alloc, leads, walk, calling.steps())
+}
+
+// Nodes one after another, some of which have rows twice.
+const NODES: [&[u8]; 7] = [
+    &[0, 0, 0, 0, 0, 0, 0],
+    &[0, 0, 0, 0, 0, 1],
+    &[0, 0, 0, 0],
+    &[1, 1, 1],
+    &[1, 1, 1, 0],
+    &[1, 1],
+    &[0, 1, 1, 0],
+];
+
+fn goes_to_all(
+    alloc: Global,
+    problem: &Problem,
+    leads: &LeadTable,
+    walk: &mut NumberWalk,
+) -> Result<bool, Fail>
+    requires { walk.old.problem ≡ problem.now }
+{
+    for node in NODES {
+        if !goes_to(alloc, problem, leads, walk, node)? {
+            return Ok(false);
+        }
+    }
+    Ok(true)
+}
+
+#[test]
+fn nodes_with_rows_twice(rt: HostRuntime) -> Result<(), Fail> {
+    let problem = problem_of(rt.alloc(), &DOUBLES)?;
+    let leads = leads_of(rt.alloc(), &problem)?;
+    let numbers = numbers_of(rt.alloc(), &problem, &leads)?;
+    let mut walk = walk_of(rt.alloc(), &problem, &leads, &numbers)?;
+    assert!(rt; goes_to_all(rt.alloc(), &problem, &leads, &mut walk)?);
+    Ok(())
+}
