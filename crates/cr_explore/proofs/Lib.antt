@@ -7,4 +7,5 @@ pub mod Taking
 pub mod AnyOrder
 pub mod Finishing
 pub mod Powers
+pub mod OneTest
 pub mod KeptTouches

@@ -14,10 +14,10 @@ ghost use Rattle.cr_query.specs.Meeting.{MeetsCounts, MeetsMethodCounts};
 ghost use Rattle.cr_explore.specs.Keeping.{MayBeKept};
 
 use crate::homes::{comes_home, is_long_enough};
+use crate::standing::Standing;
 use crate::touches::touch_of;
 use cr_leads::LeadTable;
 use cr_model::Problem;
-use cr_prune::Walk;
 use cr_query::laws::a_wanted_calling_is_kept_where_its_part_is_least;
 use cr_query::{is_kept, turn_free};
 use cr_row::NoMemory;
@@ -26,16 +26,16 @@ use std::alloc::Global;
 /// Whether the touch of a walk's node is kept. Where the node does not come home, or its touch is too short, misses a
 /// count or is not the least of its rotations, nothing is rung. Where all rotations of a touch meet the query or none,
 /// half of the further parts are rung at most, and no memory is taken. Err where no memory is left.
-pub fn is_touch_kept(
+pub fn is_touch_kept<W: Standing>(
     alloc: Global,
     problem: &Problem,
     leads: &LeadTable,
-    walk: &Walk,
+    walk: &W,
 ) -> Result<bool, NoMemory>
-    requires same { walk.now.problem ≡ problem.now }
+    requires same { W.problem_of walk.now ≡ problem.now }
     requires table { leads.now ≡ lead_table problem.now }
-    requires valid { IsValid problem.now walk.now.node }
-    ensures { IfOk result (λ kept. IsTrue kept ↔ Kept problem.now (touch_of problem.now walk.now.node)) }
+    requires valid { IsValid problem.now (W.node_of walk.now) }
+    ensures { IfOk result (λ kept. IsTrue kept ↔ Kept problem.now (touch_of problem.now (W.node_of walk.now))) }
 {
     a_wanted_calling_is_kept_where_its_part_is_least();
     let query = problem.query();
@@ -50,9 +50,9 @@ pub fn is_touch_kept(
 }
 
 // Whether what the walk tells of its node allows that the touch is kept.
-fn may_be_kept(problem: &Problem, walk: &Walk) -> bool
-    requires { walk.now.problem ≡ problem.now }
-    ensures { IsTrue result ↔ MayBeKept problem.now walk.now.node }
+fn may_be_kept<W: Standing>(problem: &Problem, walk: &W) -> bool
+    requires { W.problem_of walk.now ≡ problem.now }
+    ensures { IsTrue result ↔ MayBeKept problem.now (W.node_of walk.now) }
 {
     comes_home(problem, walk.steps(), walk.head())
         && is_long_enough(problem, walk.length())
@@ -61,26 +61,26 @@ fn may_be_kept(problem: &Problem, walk: &Walk) -> bool
 }
 
 // Whether the counts of marks and those of methods are met.
-fn meets_counts(problem: &Problem, walk: &Walk) -> bool
-    requires { walk.now.problem ≡ problem.now }
-    ensures { IsTrue result ↔ (MeetsCounts problem.now (touch_of problem.now walk.now.node)
-        × MeetsMethodCounts problem.now (touch_of problem.now walk.now.node)) }
+fn meets_counts<W: Standing>(problem: &Problem, walk: &W) -> bool
+    requires { W.problem_of walk.now ≡ problem.now }
+    ensures { IsTrue result ↔ (MeetsCounts problem.now (touch_of problem.now (W.node_of walk.now))
+        × MeetsMethodCounts problem.now (touch_of problem.now (W.node_of walk.now))) }
 {
     walk.meets_counts()
 }
 
 // Whether no rotation of the node is less than it, if all rotations of a touch meet the query or none.
-fn is_least_if_asked(problem: &Problem, walk: &Walk) -> bool
-    ensures { IsTrue result ↔ (turn_free problem.now.query ≡ true → IsLeastRotation walk.now.node) }
+fn is_least_if_asked<W: Standing>(problem: &Problem, walk: &W) -> bool
+    ensures { IsTrue result ↔ (turn_free problem.now.query ≡ true → IsLeastRotation (W.node_of walk.now)) }
 {
     !turn_free(problem.query()) || walk.is_least()
 }
 
 // Whether the rows of the touch, which comes home, differ.
-fn has_different_rows(walk: &Walk) -> bool
-    requires sound { IsSound walk.now.problem }
-    requires home { head_of walk.now.problem (touch_of walk.now.problem walk.now.node) ≡ rounds walk.now.problem.stage }
-    ensures { IsTrue result ↔ AllDiffer (rows_of walk.now.problem (touch_of walk.now.problem walk.now.node)) }
+fn has_different_rows<W: Standing>(walk: &W) -> bool
+    requires sound { IsSound (W.problem_of walk.now) }
+    requires home { head_of (W.problem_of walk.now) (touch_of (W.problem_of walk.now) (W.node_of walk.now)) ≡ rounds (W.problem_of walk.now).stage }
+    ensures { IsTrue result ↔ AllDiffer (rows_of (W.problem_of walk.now) (touch_of (W.problem_of walk.now) (W.node_of walk.now))) }
 {
     !walk.has_repeat() && walk.parts_differ()
 }

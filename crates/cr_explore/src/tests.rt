@@ -1,14 +1,19 @@
 use super::*;
+use crate::tables::Tables;
+use cr_false::{Built, FalseTable};
+use cr_leads::LeadTable;
 use cr_model::Cell::Bell;
-use cr_model::{Cell, Lead, Pattern, Problem, Query, Step};
+use cr_model::{Cell, Com, Count, Lead, Pattern, Problem, Query, Step};
 use cr_node::laws::work_goes_on;
 use cr_node::{Done, Explorer, Node};
 use cr_row::{Change, Stage};
 use std::alloc::Global;
 use std::test::*;
+use std::thread::Threads;
 
 // A problem in short: of each lead the mark and the changes, by the places made or `x` for none. Where there are cells,
-// at least one row fits them.
+// at least one row fits them. A plain lead begins the next method. Of leads with a mark, and of changes of method, there
+// may be so many at most.
 #[derive(Clone, Copy)]
 struct Draft {
     stage: u8,
@@ -17,18 +22,24 @@ struct Draft {
     max: i64,
     parts: i64,
     cells: &'static [Cell],
+    count: Option<(u8, i64)>,
+    com: Option<i64>,
 }
+
+const BOBS: &[(u8, &[u8])] = &[
+    (b'p', b"5.1.5.1.5.1.5.1.5.125"),
+    (b'b', b"5.1.5.1.5.1.5.1.5.145"),
+];
 
 const DOUBLES: Draft = Draft {
     stage: 5,
-    leads: &[
-        (b'p', b"5.1.5.1.5.1.5.1.5.125"),
-        (b'b', b"5.1.5.1.5.1.5.1.5.145"),
-    ],
+    leads: BOBS,
     min: 1,
     max: 120,
     parts: 1,
     cells: &[],
+    count: None,
+    com: None,
 };
 
 const TWO_PARTS: Draft = Draft {
@@ -60,6 +71,8 @@ const MINIMUS: Draft = Draft {
     max: 24,
     parts: 1,
     cells: &[],
+    count: None,
+    com: None,
 };
 
 // With a call whose last change makes all places, so that a row stands twice.
@@ -98,12 +111,24 @@ fn patterns_of(alloc: Global, cells: &[Cell]) -> Result<Vec<Pattern>, Fail> {
     Ok(patterns)
 }
 
+fn counts_of(alloc: Global, count: Option<(u8, i64)>) -> Result<Vec<Count>, Fail> {
+    let mut counts = Vec::new(alloc);
+    if let Some((mark, max)) = count {
+        counts.push(Count { mark, min: 0, max })?;
+    }
+    Ok(counts)
+}
+
 fn problem(alloc: Global, draft: &Draft) -> Result<Problem, Fail> {
     let stage = Stage::new(draft.stage).ok_or("the stage is from 3 to 16")?;
     let mut leads = Vec::new(alloc);
+    let mut letters = Vec::new(alloc);
     for (mark, text) in draft.leads {
+        if *mark == b'p' {
+            letters.push(if letters.is_empty() { b'A' } else { b'B' })?;
+        }
         let step = Step {
-            method: 0,
+            method: u8::from(letters.len() > 1),
             mark: *mark,
         };
         let changes = changes_of(alloc, stage, text)?;
@@ -113,31 +138,70 @@ fn problem(alloc: Global, draft: &Draft) -> Result<Problem, Fail> {
         min: draft.min,
         max: draft.max,
         parts: draft.parts,
-        counts: Vec::new(alloc),
+        counts: counts_of(alloc, draft.count)?,
         method_counts: Vec::new(alloc),
         patterns: patterns_of(alloc, draft.cells)?,
-        com: None,
+        com: draft.com.map(|max| Com { min: 0, max }),
     };
-    match Problem::new(stage, (b"A").to_vec(alloc)?, leads, query) {
+    match Problem::new(stage, letters, leads, query) {
         Ok(problem) => Ok(problem),
         Err(_) => Err(Fail::from("the parts are refused")),
     }
 }
 
-// The root, explored in so many turns.
-fn explored(alloc: Global, draft: &Draft, turns: u64) -> Result<Done, Fail> {
-    work_goes_on();
+// How a search looks for rows that come again: by their numbers, by the rows themselves, or by the falseness table.
+#[derive(Clone, Copy)]
+enum Way {
+    Numbers,
+    Rows,
+    Table,
+}
+
+use Way::*;
+
+// The search that has a falseness table and no numbers, and asks the table.
+fn asking(
+    rt: &(impl AllocGlobal + Threads + Sync),
+    problem: &Problem,
+) -> Result<TableSearch, Fail> {
+    let alloc = rt.alloc();
+    let leads = LeadTable::new(alloc, problem)?;
+    match FalseTable::new(rt, alloc, &leads, 4_000_000)? {
+        Built::Table(table) => Ok(TableSearch {
+            tables: Tables::with_room(alloc, problem, 0)?,
+            table,
+            asks_table: true,
+        }),
+        Built::Wide(_) => Err(Fail::from("the table has room")),
+    }
+}
+
+// A search that looks for rows that come again in one of the ways.
+fn search_by(
+    rt: &(impl AllocGlobal + Threads + Sync),
+    draft: &Draft,
+    way: Way,
+) -> Result<Search, Fail> {
+    let alloc = rt.alloc();
     let problem = problem(alloc, draft)?;
-    let search = match RowSearch::new(alloc, &problem) {
-        Ok(search) => search,
-        Err(_) => return Err(Fail::from("there is memory")),
+    let search = match way {
+        Numbers => Search::Rows(RowSearch::new(alloc, &problem)?),
+        Rows => {
+            let tables = Tables::with_room(alloc, &problem, 0)?;
+            Search::Rows(RowSearch { tables })
+        }
+        Table => Search::Table(asking(rt, &problem)?),
     };
+    Ok(search)
+}
+
+// The root, explored in so many turns.
+fn explored(alloc: Global, search: &Search, turns: u64) -> Result<Done, Fail> {
+    work_goes_on();
+    let _ = search.problem().stage();
     let mut job = Vec::new(alloc);
     job.push(Node::root(alloc))?;
-    match search.explore(alloc, &job, turns) {
-        Ok(done) => Ok(done),
-        Err(_) => Err(Fail::from("there is memory")),
-    }
+    Ok(search.explore(alloc, &job, turns)?)
 }
 
 // Appends the marks of some steps, and a stroke.
@@ -152,73 +216,208 @@ fn write_marks(text: &mut Vec<u8>, draft: &Draft, steps: &[u8]) -> Result<(), Fa
     Ok(())
 }
 
-// What was found and what is left, as marks, each ended by a stroke.
-fn texts(alloc: Global, draft: &Draft, done: &Done) -> Result<(Vec<u8>, Vec<u8>), Fail> {
-    let mut found = Vec::new(alloc);
+// What finished work found and what it left, as marks, each ended by a stroke, and the two by a bar.
+fn write_done(text: &mut Vec<u8>, draft: &Draft, done: &Done) -> Result<(), Fail> {
     for touch in done.found() {
-        write_marks(&mut found, draft, touch.steps())?;
+        write_marks(text, draft, touch.steps())?;
     }
-    let mut rest = Vec::new(alloc);
+    text.push(b'|')?;
     for node in done.rest() {
-        write_marks(&mut rest, draft, node.steps())?;
+        write_marks(text, draft, node.steps())?;
     }
-    Ok((found, rest))
+    Ok(())
 }
 
-// The problem, the turns, what is found, what is left, and the turns that are used.
-type Case = (&'static str, Draft, u64, &'static [u8], &'static [u8], u64);
+// What the root's exploration in so many turns found and left, and the turns that it used, if these are as many as are
+// wanted.
+fn told(
+    alloc: Global,
+    draft: &Draft,
+    search: &Search,
+    turns: u64,
+    used: Option<u64>,
+) -> Result<Vec<u8>, Fail> {
+    let done = explored(alloc, search, turns)?;
+    let mut text = Vec::new(alloc);
+    write_done(&mut text, draft, &done)?;
+    if done.used() != used.unwrap_or(done.used()) {
+        return Err(Fail::from("so many turns are used"));
+    }
+    Ok(text)
+}
+
+// The problem, the turns, what is found and what is left, and the turns that are used.
+type Case = (&'static str, Draft, u64, &'static [u8], u64);
 
 const CASES: [Case; 13] = [
-    ("no turn", DOUBLES, 0, b"", b"/", 0),
-    ("one turn", DOUBLES, 1, b"", b"b/p/", 1),
-    ("two turns", DOUBLES, 2, b"", b"b/pb/pp/", 2),
+    ("no turn", DOUBLES, 0, b"|/", 0),
+    ("one turn", DOUBLES, 1, b"|b/p/", 1),
+    ("two turns", DOUBLES, 2, b"|b/pb/pp/", 2),
     (
         "all but one",
         DOUBLES,
         31,
-        b"pppp/pppbpppbpppb/ppbpbppbpb/pbpbpb/",
-        b"bb/",
+        b"pppp/pppbpppbpppb/ppbpbppbpb/pbpbpb/|bb/",
         31,
     ),
     (
         "all",
         DOUBLES,
         32,
-        b"pppp/pppbpppbpppb/ppbpbppbpb/pbpbpb/bb/",
-        b"",
+        b"pppp/pppbpppbpppb/ppbpbppbpb/pbpbpb/bb/|",
         32,
     ),
-    (
-        "in two parts",
-        TWO_PARTS,
-        99,
-        b"pppp/ppbpbppbpb/bb/",
-        b"",
-        18,
-    ),
+    ("in two parts", TWO_PARTS, 99, b"pppp/ppbpbppbpb/bb/|", 18),
     (
         "in three parts",
         THREE_PARTS,
         99,
-        b"pppbpppbpppb/pbpbpb/",
-        b"",
+        b"pppbpppbpppb/pbpbpb/|",
         11,
     ),
-    ("in four parts", FOUR_PARTS, 99, b"pppp/", b"", 8),
-    ("with a pattern", PATTERN, 99, b"bpbpbp/", b"", 20),
-    ("three turns of minimus", MINIMUS, 3, b"", b"ppp/", 3),
-    ("four turns of minimus", MINIMUS, 4, b"ppp/", b"", 4),
-    ("a false call", FALSE_CALL, 3, b"", b"ppp/", 3),
-    ("a false call, to the end", FALSE_CALL, 9, b"ppp/", b"", 4),
+    ("in four parts", FOUR_PARTS, 99, b"pppp/|", 8),
+    ("with a pattern", PATTERN, 99, b"bpbpbp/|", 20),
+    ("three turns of minimus", MINIMUS, 3, b"|ppp/", 3),
+    ("four turns of minimus", MINIMUS, 4, b"ppp/|", 4),
+    ("a false call", FALSE_CALL, 3, b"|ppp/", 3),
+    ("a false call, to the end", FALSE_CALL, 9, b"ppp/|", 4),
 ];
+
+// A case in one of the ways.
+fn check(rt: &(impl AllocGlobal + Threads + Sync), case: Case, way: Way) -> Result<(), Fail> {
+    let (name, draft, turns, wanted, used) = case;
+    let search = search_by(rt, &draft, way)?;
+    let text = told(rt.alloc(), &draft, &search, turns, Some(used))?;
+    if text.as_slice() == wanted {
+        Ok(())
+    } else {
+        Err(Fail::from(name))
+    }
+}
 
 #[test]
 fn turns_on_the_root(rt: HostRuntime) -> Result<(), Fail> {
-    for (name, draft, turns, found, rest, used) in CASES {
-        let done = explored(rt.alloc(), &draft, turns)?;
-        let texts = texts(rt.alloc(), &draft, &done)?;
-        if texts.0.as_slice() != found || texts.1.as_slice() != rest || done.used() != used {
-            return Err(Fail::from(name));
+    for case in CASES {
+        check(&rt, case, Numbers)?;
+        check(&rt, case, Rows)?;
+        check(&rt, case, Table)?;
+    }
+    Ok(())
+}
+
+const GRANDSIRE: &[(u8, &[u8])] = &[
+    (b'p', b"3.1.5.1.5.1.5.1.5.1"),
+    (b'b', b"3.1.5.1.5.1.5.3.5.1"),
+    (b's', b"3.1.5.1.5.1.5.3.5.123"),
+];
+
+// A call of another length than what it replaces.
+const SHORT_CALL: &[(u8, &[u8])] = &[
+    (b'p', b"x.14.x.14.x.14.x.12"),
+    (b'b', b"x.14.x.14.x.14"),
+    (b's', b"x.14.x.14.x.14.x.1234"),
+];
+
+const MINOR: &[(u8, &[u8])] = &[
+    (b'p', b"x.16.x.16.x.16.x.16.x.16.x.12"),
+    (b'b', b"x.16.x.16.x.16.x.16.x.16.x.14"),
+];
+
+const SPLICED: &[(u8, &[u8])] = &[
+    (b'p', b"x.14.x.14.x.14.x.12"),
+    (b'b', b"x.14.x.14.x.14.x.14"),
+    (b'p', b"x.14.12.14.x.14.12.14"),
+];
+
+const HUNTS: &[(u8, &[u8])] = &[(b'p', b"3.1.3.1.3.1"), (b'b', b"3.1"), (b's', b"1.3")];
+
+// Stages and leads, none of them symmetric throughout.
+const METHODS: [(u8, &[(u8, &[u8])]); 6] = [
+    (3, HUNTS),
+    (4, SHORT_CALL),
+    (4, SPLICED),
+    (5, GRANDSIRE),
+    (5, BOBS),
+    (6, MINOR),
+];
+
+// What is asked: the least and the greatest length, the parts, the cells of a pattern, the most leads with a mark, and
+// the most changes of method.
+type Asked = (
+    i64,
+    i64,
+    i64,
+    &'static [Cell],
+    Option<(u8, i64)>,
+    Option<i64>,
+);
+
+const ASKED: [Asked; 10] = [
+    (1, 120, 1, &[], None, None),
+    (1, 72, 1, &[Bell(1), Bell(3), Cell::Run], None, None),
+    (1, 60, 1, &[], Some((b'b', 1)), None),
+    (24, 24, 1, &[], None, Some(1)),
+    (1, 120, 2, &[], None, None),
+    (1, 120, 3, &[Cell::Run, Bell(2), Bell(3)], None, None),
+    (1, 144, 4, &[], Some((b'p', 8)), None),
+    (1, 120, 5, &[], None, Some(20)),
+    (60, 180, 6, &[], None, None),
+    (1, 11, 1, &[], Some((b'b', 0)), None),
+];
+
+// Ok where two searches find and leave the same in so many turns.
+fn agree(
+    alloc: Global,
+    draft: &Draft,
+    one: &Search,
+    other: &Search,
+    turns: u64,
+) -> Result<(), Fail> {
+    let text = told(alloc, draft, one, turns, None)?;
+    let other_text = told(alloc, draft, other, turns, None)?;
+    if text.as_slice() == other_text.as_slice() {
+        Ok(())
+    } else {
+        Err(Fail::from("two ways find or leave another"))
+    }
+}
+
+// Ok where a way finds and leaves the same as rung leads do.
+fn agrees(
+    rt: &(impl AllocGlobal + Threads + Sync),
+    draft: &Draft,
+    rows: &Search,
+    way: Way,
+) -> Result<(), Fail> {
+    let other = search_by(rt, draft, way)?;
+    for turns in [1, 9, 300] {
+        agree(rt.alloc(), draft, rows, &other, turns)?;
+    }
+    Ok(())
+}
+
+// Ok where all three ways find and leave the same.
+fn all_agree(rt: &(impl AllocGlobal + Threads + Sync), draft: &Draft) -> Result<(), Fail> {
+    let rows = search_by(rt, draft, Rows)?;
+    agrees(rt, draft, &rows, Numbers)?;
+    agrees(rt, draft, &rows, Table)
+}
+
+#[test]
+fn all_ways_are_one(rt: HostRuntime) -> Result<(), Fail> {
+    for (stage, leads) in METHODS {
+        for (min, max, parts, cells, count, com) in ASKED {
+            let draft = Draft {
+                stage,
+                leads,
+                min,
+                max,
+                parts,
+                cells,
+                count,
+                com,
+            };
+            all_agree(&rt, &draft)?;
         }
     }
     Ok(())

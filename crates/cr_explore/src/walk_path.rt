@@ -1,13 +1,15 @@
 //! A path by a walk and a pruner.
 
-ghost use Rattle.std.specs.Prelude.{◌≡◌, [], IfOk};
+ghost use Rattle.std.specs.Prelude.{◌≡◌, [], IfOk, IfSome};
 ghost use Rattle.cr_model.specs.Sizes.{most_rows};
+ghost use Rattle.cr_false.specs.Sets.{IsFalseTable};
 ghost use Rattle.cr_leads.specs.Tables.{lead_table};
 ghost use Rattle.cr_reach.specs.Tables.{reach_table};
 
 use crate::keeping::is_touch_kept;
 use crate::path::Path;
 use crate::walking::{go_down, go_to, go_up};
+use cr_false::FalseTable;
 use cr_leads::LeadTable;
 use cr_model::Problem;
 use cr_model::laws::a_test_decides_what_is_kept;
@@ -40,18 +42,21 @@ impl<'a> Model for WalkPath<'a> {
 }
 
 impl<'a> WalkPath<'a> {
-    /// The path at the node without steps. Err where no memory is left.
+    /// The path at the node without steps, whose walk asks a falseness table, if there is one, and else keeps the rows.
+    /// Err where no memory is left.
     pub fn new(
         alloc: Global,
         problem: &'a Problem,
         leads: &'a LeadTable,
         reach: &'a ReachTable,
+        table: Option<&'a FalseTable>,
     ) -> Result<WalkPath<'a>, NoMemory>
         requires leads { leads.now ≡ lead_table problem.now }
+        requires table { IfSome table (λ t. IsFalseTable leads.now t.now) }
         requires reach { reach.now ≡ reach_table problem.now most_rows }
         ensures { IfOk result (λ path. path ≡ record { problem = problem.now; node = [] }) }
     {
-        let walk = Walk::new(alloc, problem, leads)?;
+        let walk = Walk::new(alloc, problem, leads, table)?;
         let pruner = Pruner::new(leads, reach, problem);
         Ok(WalkPath {
             problem,

@@ -5,6 +5,6 @@ use Rattle.cr_query.specs.Meeting.{MeetsCounts, MeetsMethodCounts}
 use Rattle.cr_explore.proofs.keeping.meets_counts.Goals as goal
 
 pub returns : goal.returns
-returns c =
-    subst (λ (p : ProblemParts). IsTrue c.meets_counts.result ↔ (MeetsCounts p (touch_of p c.args.walk.now.node) × MeetsMethodCounts p (touch_of p c.args.walk.now.node)))
+returns g c =
+    subst (λ (p : ProblemParts). IsTrue c.meets_counts.result ↔ (MeetsCounts p (touch_of p (g.W.Standing.node_of c.args.walk.now)) × MeetsMethodCounts p (touch_of p (g.W.Standing.node_of c.args.walk.now))))
     c.requires c.meets_counts.ensures

@@ -1,20 +1,10 @@
-use Rattle.std.proofs.Common.{ℕ, List, ◌≡◌, Bool, true, false, ◌↔◌, IsTrue, IfOk, Ok, Err, Result, refl, sym, ap, ap₂, ◌∙◌, subst}
-use Rattle.std.proofs.lemmas.Bool.{false≢true}
+use Rattle.std.proofs.Common.{ℕ, List, ◌≡◌, Bool, ◌↔◌, IsTrue, IfOk, refl, sym, ap, ap₂, ◌∙◌, subst}
 use Rattle.cr_model.specs.Problems.{ProblemParts}
 use Rattle.cr_model.specs.Decided.{is_kept}
 use Rattle.cr_model.specs.OneTurn.{touch_of}
 use Rattle.cr_prune.specs.Walks.{WalkParts}
+use Rattle.cr_explore.proofs.OneTest.{in_result}
 use Rattle.cr_explore.proofs.walk_path.WalkPathPath.is_kept.Goals as goal
-
--- two tests of one fact agree
-one_test : (a b : Bool) (K : Type 0) → IsTrue a ↔ K → (b ≡ true) ↔ K → a ≡ b
-one_test true b K one two = sym (two.1 (one.0 refl))
-one_test false true K one two = absurd (false≢true (one.1 (two.0 refl)))
-one_test false false K one two = refl
-
-in_result : {E : Type 0} (r : Result Bool E) (b : Bool) (K : Type 0) → IfOk r (λ a. IsTrue a ↔ K) → (b ≡ true) ↔ K → IfOk r (λ a. a ≡ b)
-in_result (Ok a) b K one two = one_test a b K one two
-in_result (Err e) b K one two = tt
 
 pub returns-clause-kept : goal.returns-clause-kept
 returns-clause-kept c =

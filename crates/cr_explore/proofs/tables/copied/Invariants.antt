@@ -1,5 +1,5 @@
 use Rattle.std.proofs.Common.{◌≡◌, take}
-use Rattle.cr_explore.proofs.row_search.copied.Given as goal
+use Rattle.cr_explore.proofs.tables.copied.Given as goal
 
 abbrev pub invariant-loop-node : goal.invariant-loop-node
 invariant-loop-node l = l.copies.items ≡ take l.node-index l.nodes

@@ -1,0 +1,89 @@
+//! A path by numbers.
+
+ghost use Rattle.std.specs.Prelude.{◌≡◌, [], IfOk};
+ghost use Rattle.cr_leads.specs.Tables.{lead_table};
+ghost use Rattle.cr_path.specs.Numbers.{IsNumbered};
+
+use crate::keeping::is_touch_kept;
+use crate::path::Path;
+use cr_leads::LeadTable;
+use cr_model::Problem;
+use cr_model::laws::a_test_decides_what_is_kept;
+use cr_path::{NumberTable, NumberWalk};
+use cr_row::NoMemory;
+use std::alloc::Global;
+use std::marker::Model;
+
+/// A path that looks up the rows of its leads by their numbers.
+///
+/// It is seen as the problem and the node.
+#[derive(Drop)]
+pub struct NumberPath<'a> {
+    problem: &'a Problem,
+    leads: &'a LeadTable,
+    walk: NumberWalk<'a>,
+}
+
+impl<'a> Model for NumberPath<'a> {
+    ghost use Rattle.cr_path.specs.Walks.{WalkParts};
+    ghost use Rattle.cr_explore.specs.Searches.{IsNumberPath};
+
+    ghost Value = { WalkParts };
+
+    ghost view = { λ w. w.walk };
+
+    ghost invariant = { λ w. IsNumberPath w.problem.now w.leads.now w.walk };
+}
+
+impl<'a> NumberPath<'a> {
+    /// The path at the node without steps. Err where no memory is left.
+    pub fn new(
+        alloc: Global,
+        problem: &'a Problem,
+        leads: &'a LeadTable,
+        numbers: &'a NumberTable,
+    ) -> Result<NumberPath<'a>, NoMemory>
+        requires leads { leads.now ≡ lead_table problem.now }
+        requires numbers { IsNumbered problem.now numbers.now }
+        ensures { IfOk result (λ path. path ≡ record { problem = problem.now; node = [] }) }
+    {
+        let walk = NumberWalk::new(alloc, problem, leads, numbers)?;
+        Ok(NumberPath {
+            problem,
+            leads,
+            walk,
+        })
+    }
+}
+
+impl<'a> Path for NumberPath<'a> {
+    ghost problem_of = { λ w. w.problem };
+
+    ghost node_of = { λ w. w.node };
+
+    fn problem(&self) -> &Problem {
+        self.problem
+    }
+
+    fn node(&self) -> &[u8] {
+        self.walk.steps()
+    }
+
+    fn go_to(&mut self, steps: &[u8]) {
+        self.walk.go_to(steps);
+    }
+
+    #[tactic(auto, unfolding(crate::specs::Stacks::first_live))]
+    fn down(&mut self, from: u8) -> Option<u8> {
+        self.walk.go_down(from)
+    }
+
+    fn up(&mut self) -> u8 {
+        self.walk.go_up()
+    }
+
+    fn is_kept(&mut self, alloc: Global) -> Result<bool, NoMemory> {
+        a_test_decides_what_is_kept();
+        is_touch_kept(alloc, self.problem, self.leads, &self.walk)
+    }
+}

@@ -1,0 +1,92 @@
+//! The search with a falseness table.
+
+ghost use Rattle.std.specs.Prelude.{◌≡◌, IfOk, IfSome};
+ghost use Rattle.cr_false.specs.Sets.{IsFalseTable};
+ghost use Rattle.cr_leads.specs.Tables.{lead_table};
+
+use crate::tables::Tables;
+use cr_false::FalseTable;
+use cr_model::Problem;
+use cr_node::{Done, Explorer, Node};
+use cr_row::NoMemory;
+use std::alloc::Global;
+use std::marker::Model;
+
+/// The search of a problem that has a falseness table of its leads.
+///
+/// It looks up rows by their numbers, where those have room. Where they have none it asks the table whether two leads
+/// share a row, if leads are long and touches have few of them, and else it rings each lead, which is faster then.
+///
+/// It is seen as the problem.
+#[derive(Drop)]
+pub struct TableSearch {
+    pub(crate) tables: Tables,
+    pub(crate) table: FalseTable,
+    pub(crate) asks_table: bool,
+}
+
+impl Model for TableSearch {
+    ghost use Rattle.cr_model.specs.Problems.{ProblemParts};
+    ghost use Rattle.cr_false.specs.Sets.{IsFalseTable};
+    ghost use Rattle.cr_leads.specs.Tables.{lead_table};
+
+    ghost Value = { ProblemParts };
+
+    ghost view = { λ s. s.tables };
+
+    ghost invariant = { λ s. IsFalseTable (lead_table s.tables) s.table };
+}
+
+impl TableSearch {
+    /// The search of a problem with this table, which is that of its leads. Err where no memory is left.
+    pub fn new(alloc: Global, problem: &Problem, table: FalseTable) -> Result<TableSearch, NoMemory>
+        requires { IsFalseTable (lead_table problem.now) table }
+        ensures { IfOk result (λ search. search ≡ problem.now) }
+    {
+        let asks_table = is_faster_with_table(problem);
+        let tables = Tables::new(alloc, problem)?;
+        Ok(TableSearch {
+            tables,
+            table,
+            asks_table,
+        })
+    }
+
+    // The table, where it is asked.
+    fn asked(&self) -> Option<&FalseTable>
+        ensures { IfSome result (λ t. IsFalseTable (lead_table self.now) t.now) }
+    {
+        if self.asks_table {
+            Some(&self.table)
+        } else {
+            None
+        }
+    }
+}
+
+impl Explorer for TableSearch {
+    ghost use Rattle.cr_model.specs.Sizes.{most_rows};
+    ghost use Rattle.cr_explore.specs.Turns.{after_turns};
+
+    ghost explores = { λ p. p };
+
+    // Found, rest and used are those of the definition.
+    ghost gives = { λ p job turns done. record { found = done.found; rest = done.rest; used = done.used } ≡ after_turns p most_rows job turns };
+
+    fn problem(&self) -> &Problem {
+        self.tables.problem()
+    }
+
+    fn explore(&self, alloc: Global, job: &[Node], turns: u64) -> Result<Done, NoMemory> {
+        self.tables.explore(alloc, self.asked(), job, turns)
+    }
+}
+
+// How many rows are rung in the time that the table takes to be asked of one earlier lead.
+const ROWS_AN_ANSWER: u64 = 4;
+
+// Whether asking a table of each earlier lead of a part takes less time than ringing one more.
+fn is_faster_with_table(problem: &Problem) -> bool {
+    let shortest = problem.shortest().max(1);
+    problem.part_cap() / shortest < shortest / ROWS_AN_ANSWER
+}

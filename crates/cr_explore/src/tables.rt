@@ -1,0 +1,239 @@
+//! The tables of a problem's search, and turns over them.
+
+ghost use Rattle.std.specs.Prelude.{◌≡◌, ◌≤◌, ◌⊎◌, [], All, IfOk, IfSome};
+ghost use Rattle.cr_false.specs.Sets.{IsFalseTable};
+ghost use Rattle.cr_leads.specs.Tables.{lead_table};
+ghost use Rattle.cr_model.specs.Nodes.{IsValid};
+ghost use Rattle.cr_model.specs.Sizes.{most_rows};
+ghost use Rattle.cr_node.specs.Work.{IsDone, IsJob};
+ghost use Rattle.cr_path.specs.Numbers.{IsNumbered};
+ghost use Rattle.cr_reach.specs.Tables.{reach_table};
+ghost use Rattle.cr_explore.specs.Turns.{after_turns};
+
+use crate::laws::turns_are_finished_work;
+use crate::number_path::NumberPath;
+use crate::search::{Explored, take_turns};
+use crate::walk_path::WalkPath;
+use cr_false::FalseTable;
+use cr_leads::LeadTable;
+use cr_model::Problem;
+use cr_node::{Done, Node};
+use cr_path::NumberTable;
+use cr_reach::ReachTable;
+use cr_row::NoMemory;
+use std::alloc::Global;
+use std::marker::Model;
+
+// How many rows the table of levels holds at most.
+const MOST_ROWS: u64 = 200_000;
+
+// How many bytes the records and numbers of all heads may take, 48 MB.
+const MOST_BYTES: u64 = 48_000_000;
+
+// How many bytes a record takes, and how many a row's number.
+const RECORD_BYTES: u64 = 16;
+
+const NUMBER_BYTES: u64 = 4;
+
+/// The tables of a problem: its leads, the rows that are few leads from rounds, and, where they have room, its heads and
+/// rows by numbers.
+///
+/// They are seen as the problem.
+#[derive(Drop)]
+pub struct Tables {
+    problem: Problem,
+    leads: LeadTable,
+    reach: ReachTable,
+    numbers: Option<NumberTable>,
+}
+
+impl Model for Tables {
+    ghost use Rattle.cr_model.specs.Problems.{ProblemParts};
+    ghost use Rattle.cr_explore.specs.Searches.{AreTables};
+
+    ghost Value = { ProblemParts };
+
+    ghost view = { λ t. t.problem };
+
+    ghost invariant = { λ t. AreTables t.problem t.leads t.reach t.numbers };
+}
+
+impl Tables {
+    /// The tables of a problem. Err where no memory is left.
+    pub fn new(alloc: Global, problem: &Problem) -> Result<Tables, NoMemory>
+        ensures { IfOk result (λ tables. tables ≡ problem.now) }
+    {
+        let leads = LeadTable::new(alloc, problem)?;
+        let most_heads = room_for_heads(&leads);
+        Tables::with_leads(alloc, problem, leads, most_heads)
+    }
+
+    /// The tables of a problem, with no more heads by numbers than so many. Err where no memory is left.
+    pub fn with_room(alloc: Global, problem: &Problem, most_heads: u64) -> Result<Tables, NoMemory>
+        ensures { IfOk result (λ tables. tables ≡ problem.now) }
+    {
+        let leads = LeadTable::new(alloc, problem)?;
+        Tables::with_leads(alloc, problem, leads, most_heads)
+    }
+
+    fn with_leads(
+        alloc: Global,
+        problem: &Problem,
+        leads: LeadTable,
+        most_heads: u64,
+    ) -> Result<Tables, NoMemory>
+        requires { leads ≡ lead_table problem.now }
+        ensures { IfOk result (λ tables. tables ≡ problem.now) }
+    {
+        let problem = problem.copy(alloc)?;
+        let reach = reach_of(alloc, &problem, &leads)?;
+        let numbers = NumberTable::new(alloc, &problem, &leads, &reach, most_heads)?;
+        Ok(Tables {
+            problem,
+            leads,
+            reach,
+            numbers,
+        })
+    }
+
+    /// The problem.
+    pub fn problem(&self) -> &Problem
+        ensures { result.now ≡ self.now }
+    {
+        &self.problem
+    }
+
+    /// Explores a job: takes at most so many turns, by numbers where there are some, and else by a walk that asks the
+    /// falseness table, if there is one. Err where no memory is left.
+    pub fn explore(
+        &self,
+        alloc: Global,
+        table: Option<&FalseTable>,
+        job: &[Node],
+        turns: u64,
+    ) -> Result<Done, NoMemory>
+        requires table { IfSome table (λ t. IsFalseTable (lead_table self.now) t.now) }
+        requires job { IsJob self.now job.now }
+        ensures problem { IfOk result (λ done. done.problem ≡ self.now) }
+        ensures job { IfOk result (λ done. done.job ≡ job.now) }
+        ensures turns { IfOk result (λ done. done.used ≤ turns) }
+        ensures ends { IfOk result (λ done. (done.rest ≡ []) ⊎ (done.used ≡ turns)) }
+        ensures own { IfOk result (λ done. record { found = done.found; rest = done.rest; used = done.used }
+            ≡ after_turns self.now most_rows job.now turns) }
+    {
+        turns_are_finished_work();
+        let _ = self.problem.stage();
+        let explored = self.take_turns(alloc, table, job, turns)?;
+        finished(alloc, &self.problem, job, explored)
+    }
+
+    // Turns on a job, by numbers where there are some, and else by a walk.
+    fn take_turns(
+        &self,
+        alloc: Global,
+        table: Option<&FalseTable>,
+        job: &[Node],
+        turns: u64,
+    ) -> Result<Explored, NoMemory>
+        requires table { IfSome table (λ t. IsFalseTable (lead_table self.now) t.now) }
+        requires job { All (IsValid self.now) job.now }
+        ensures { IfOk result (λ done. record { found = done.found.items; rest = done.rest.items; used = done.used }
+            ≡ after_turns self.now most_rows job.now turns) }
+    {
+        let problem = &self.problem;
+        match &self.numbers {
+            Some(numbers) => turns_by_numbers(alloc, problem, &self.leads, numbers, job, turns),
+            None => turns_by_walk(alloc, problem, &self.leads, &self.reach, table, job, turns),
+        }
+    }
+}
+
+// How many heads have room.
+fn room_for_heads(leads: &LeadTable) -> u64 {
+    let mut bytes = 0;
+    for step in 0..leads.count() {
+        bytes += RECORD_BYTES + NUMBER_BYTES * leads.rows_of(step).len() as u64;
+    }
+    MOST_BYTES / bytes.max(1)
+}
+
+// The rows that are few leads from rounds.
+fn reach_of(alloc: Global, problem: &Problem, leads: &LeadTable) -> Result<ReachTable, NoMemory>
+    requires { leads.now ≡ lead_table problem.now }
+    ensures { IfOk result (λ reach. reach ≡ reach_table problem.now most_rows) }
+{
+    let reach = ReachTable::new(alloc, leads, MOST_ROWS)?;
+    Ok(reach)
+}
+
+// Turns on a job by numbers.
+fn turns_by_numbers(
+    alloc: Global,
+    problem: &Problem,
+    leads: &LeadTable,
+    numbers: &NumberTable,
+    job: &[Node],
+    turns: u64,
+) -> Result<Explored, NoMemory>
+    requires leads { leads.now ≡ lead_table problem.now }
+    requires numbers { IsNumbered problem.now numbers.now }
+    requires job { All (IsValid problem.now) job.now }
+    ensures { IfOk result (λ done. record { found = done.found.items; rest = done.rest.items; used = done.used }
+        ≡ after_turns problem.now most_rows job.now turns) }
+{
+    let mut path = NumberPath::new(alloc, problem, leads, numbers)?;
+    take_turns(alloc, &mut path, job, turns)
+}
+
+// Turns on a job by a walk that asks the falseness table, if there is one, and else keeps the rows.
+fn turns_by_walk(
+    alloc: Global,
+    problem: &Problem,
+    leads: &LeadTable,
+    reach: &ReachTable,
+    table: Option<&FalseTable>,
+    job: &[Node],
+    turns: u64,
+) -> Result<Explored, NoMemory>
+    requires leads { leads.now ≡ lead_table problem.now }
+    requires reach { reach.now ≡ reach_table problem.now most_rows }
+    requires table { IfSome table (λ t. IsFalseTable (lead_table problem.now) t.now) }
+    requires job { All (IsValid problem.now) job.now }
+    ensures { IfOk result (λ done. record { found = done.found.items; rest = done.rest.items; used = done.used }
+        ≡ after_turns problem.now most_rows job.now turns) }
+{
+    let mut path = WalkPath::new(alloc, problem, leads, reach, table)?;
+    take_turns(alloc, &mut path, job, turns)
+}
+
+// The finished work of these turns on a job.
+fn finished(
+    alloc: Global,
+    problem: &Problem,
+    job: &[Node],
+    explored: Explored,
+) -> Result<Done, NoMemory>
+    requires { IsDone problem.now job.now explored.found.items explored.rest.items explored.used }
+    ensures { IfOk result (λ done. done ≡ record {
+      problem = problem.now;
+      job = job.now;
+      found = explored.found.items;
+      rest = explored.rest.items;
+      used = explored.used;
+    }) }
+{
+    let problem = problem.copy(alloc)?;
+    let job = copied(alloc, job)?;
+    Ok(Done::new(problem, job, explored.found, explored.rest, explored.used))
+}
+
+// The same nodes again.
+fn copied(alloc: Global, nodes: &[Node]) -> Result<Vec<Node>, NoMemory>
+    ensures { IfOk result (λ copies. copies.items ≡ nodes.now) }
+{
+    let mut copies = Vec::with_capacity(alloc, nodes.len())?;
+    for node in nodes {
+        copies.push(node.copy(alloc)?)?;
+    }
+    Ok(copies)
+}
