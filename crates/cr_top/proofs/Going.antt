@@ -1,19 +1,22 @@
 -- Searches that go on from what others left.
-use Rattle.std.proofs.Common.{◌≡◌, ℕ, zero, suc, ◌+◌, ◌-◌, ◌<◌, ◌≤◌, ◌⊎◌, List, [], ◌∷◌, length, Option, Some, None, inl, inr, refl, sym, ap, ◌∙◌, subst, arith}
-use Rattle.std.specs.Prelude.{All, Contains, ◌↔◌, sum_by, map}
+use Rattle.std.proofs.Common.{◌≡◌, ℕ, zero, suc, ◌+◌, ◌-◌, ◌<◌, ◌≤◌, ◌⊎◌, List, [], ◌∷◌, length, Option, Some, None, Ordering, inl, inr, refl, sym, ap, ◌∙◌, subst, arith}
+use Rattle.std.specs.Prelude.{◌++◌, All, Contains, ◌↔◌, sum_by, map}
+use Rattle.std.specs.List.Sorted.{IsStrictlySortedBy}
+use Rattle.std.proofs.lemmas.List.Elements.{All-nil, All-map}
 use Rattle.cr_model.specs.Problems.{ProblemParts}
 use Rattle.cr_model.specs.Touches.{Kept}
-use Rattle.cr_model.specs.Nodes.{Covers}
-use Rattle.cr_model.specs.Books.{IsBook}
+use Rattle.cr_model.specs.Nodes.{IsValid, Independent, Covers}
+use Rattle.cr_model.specs.Books.{IsBook, book_order}
 use Rattle.cr_model.specs.Sizes.{most_rows, size, size_of_all, live_children}
 use Rattle.cr_model.specs.Sound.{IsSound}
 use Rattle.cr_model.specs.Checkpoints.{CanGoOn, nodes_of_jobs}
-use Rattle.cr_board.specs.Jobs.{OpeningParts, opening_nodes, opening_from}
-use Rattle.cr_board.specs.Boards.{BoardParts}
+use Rattle.cr_board.specs.Jobs.{JobParts, OpeningParts, opening_nodes, opening_from}
+use Rattle.cr_board.specs.Boards.{BoardParts, jobs_of, nodes_in}
 use Rattle.cr_board.specs.Halls.{AreAllowed, start, replay, grant_of}
-use Rattle.cr_board.specs.Partitions.{IsKept}
+use Rattle.cr_board.specs.Partitions.{IsPartition, IsKept}
 use Rattle.cr_board.specs.declared.entry.Entry.{Entry}
 use Rattle.cr_run.specs.Runs.{HasEnded}
+use Rattle.cr_store.specs.Searches.{WentOn}
 use Rattle.cr_store.specs.Written.{board_jobs}
 use Rattle.cr_top.specs.Runs.{size_of_jobs, GoesOnTo, KeepsTo, RunsTo, BoardRan, UnderWay, board_turns, turns_after}
 
@@ -38,21 +41,37 @@ book_found p found nodes now on covers = record {
   );
 }
 
--- a search that has not begun
-pub not_begun : (p : ProblemParts) (found : List (List ℕ)) (jobs : List (List (List ℕ))) → CanGoOn p found jobs
-    → GoesOnTo p found jobs found jobs 0
-not_begun p found jobs on = record { goes_on = on; covers = λ calling. ((λ covered. covered), (λ covered. covered)); size = omega arith }
+-- what the law on partitions says of their beginning, and of one after another
+abbrev Begun : Type 0
+Begun = (p : ProblemParts) (found nodes : List (List ℕ)) → All (Kept p) found → All (IsValid p) nodes → Independent p found nodes
+    → IsPartition p found nodes found nodes 0
 
--- one search after another
-pub onward : (p : ProblemParts) (found now later : List (List ℕ)) (jobs left rest : List (List (List ℕ))) (used more : ℕ)
-    → GoesOnTo p found jobs now left used → GoesOnTo p now left later rest more → GoesOnTo p found jobs later rest (used + more)
-onward p found now later jobs left rest used more first second = record {
-  goes_on = second.goes_on;
-  covers = λ calling. (
-    (λ covered. (first.covers calling).0 ((second.covers calling).0 covered)),
-    (λ covered. (second.covers calling).1 ((first.covers calling).1 covered)),
-  );
-  size = omega (arith, first.size, second.size);
+abbrev Onward : Type 0
+Onward = (p : ProblemParts) (found nodes now left more rest : List (List ℕ)) (spent used : ℕ) → IsPartition p found nodes now left spent
+    → IsPartition p [] left more rest used → IsPartition p found nodes (now ++ more) rest (spent + used)
+
+-- a search that has not begun
+not_begun : Begun → (p : ProblemParts) (found : List (List ℕ)) (jobs : List (List (List ℕ))) → CanGoOn p found jobs → WentOn p found jobs found jobs 0
+not_begun begun p found jobs on = record {
+  began = on;
+  nodes = begun p found (nodes_of_jobs jobs) on.kept on.valid on.independent;
+  filled = on.filled;
+}
+
+-- no touch is in order
+pub none_ascend : {K : Type 0} (cmp : K → K → Ordering) → IsStrictlySortedBy cmp []
+unfolding IsStrictlySortedBy
+none_ascend cmp = tt
+
+-- a board is opened with what is left, and no found touch
+pub can_open : (p : ProblemParts) (found : List (List ℕ)) (jobs : List (List (List ℕ))) (now : List (List ℕ)) (left : List (List (List ℕ))) (used : ℕ)
+    → WentOn p found jobs now left used → CanGoOn p [] left
+can_open p found jobs now left used way = record {
+  kept = All-nil (Kept p);
+  ascending = none_ascend (book_order p);
+  filled = way.filled;
+  valid = way.nodes.valid;
+  independent = record { nodes_apart = way.nodes.independent.nodes_apart; found_apart = λ i j inside within. absurd (omega arith) };
 }
 
 keeps_more : (turns : Option ℕ) (most used more : ℕ) → KeepsTo turns used → more ≤ board_turns (turns_after turns used) most
@@ -70,8 +89,8 @@ board_keeps None most used few = tt
 board_keeps (Some turns) most used few = omega (arith, few)
 
 module _ (p : ProblemParts) (found : List (List ℕ)) (jobs : List (List (List ℕ))) (turns : Option ℕ) where
-  pub begins : CanGoOn p found jobs → UnderWay p found jobs turns found jobs turns
-  begins on = record { used = 0; on = not_begun p found jobs on; keeps = none turns; rest = all turns }
+  pub begins : Begun → CanGoOn p found jobs → UnderWay p found jobs turns found jobs turns
+  begins begun on = record { used = 0; way = not_begun begun p found jobs on; keeps = none turns; rest = all turns }
     where
       none : (turns : Option ℕ) → KeepsTo turns 0
       none None = tt
@@ -82,17 +101,21 @@ module _ (p : ProblemParts) (found : List (List ℕ)) (jobs : List (List (List �
       all (Some most) = ap Some (omega arith)
 
   -- one board more
-  pub goes_on : (now later : List (List ℕ)) (left rest : List (List (List ℕ))) (allowed : Option ℕ) (most more : ℕ)
-      → UnderWay p found jobs turns now left allowed → BoardRan p now left (board_turns allowed most) later rest more
-      → UnderWay p found jobs turns later rest (turns_after allowed more)
-  goes_on now later left rest allowed most more way ran =
-      let keeps : KeepsTo turns (way.used + more) =
-      keeps_more turns most way.used more way.keeps (subst (λ x. more ≤ board_turns x most) way.rest ran.keeps) in
+  pub goes_on : Onward → (now more : List (List ℕ)) (left rest : List (List (List ℕ))) (allowed : Option ℕ) (most used : ℕ)
+      → UnderWay p found jobs turns now left allowed → BoardRan p left (board_turns allowed most) more rest used
+      → UnderWay p found jobs turns (now ++ more) rest (turns_after allowed used)
+  goes_on onward now more left rest allowed most used way ran =
+      let keeps : KeepsTo turns (way.used + used) =
+      keeps_more turns most way.used used way.keeps (subst (λ x. used ≤ board_turns x most) way.rest ran.keeps) in
       record {
-        used = way.used + more;
-        on = onward p found now later jobs left rest way.used more way.on ran.on;
+        used = way.used + used;
+        way = record {
+          began = way.way.began;
+          nodes = onward p found (nodes_of_jobs jobs) now (nodes_of_jobs left) more (nodes_of_jobs rest) way.used used way.way.nodes ran.nodes;
+          filled = ran.filled;
+        };
         keeps = keeps;
-        rest = ap (λ x. turns_after x more) way.rest ∙ after_more turns way.used more keeps;
+        rest = ap (λ x. turns_after x used) way.rest ∙ after_more turns way.used used keeps;
       }
 
   all_used : (turns : Option ℕ) (used : ℕ) → KeepsTo turns used → turns_after turns used ≡ Some 0 → turns ≡ Some used
@@ -101,12 +124,31 @@ module _ (p : ProblemParts) (found : List (List ℕ)) (jobs : List (List (List �
       let none : most - used ≡ 0 = cc in
       ap Some (omega (arith, none, keeps))
 
-  -- no job is left, or no turn is allowed
-  pub is_run : (now : List (List ℕ)) (left : List (List (List ℕ))) (allowed : Option ℕ) → UnderWay p found jobs turns now left allowed
-      → (left ≡ []) ⊎ (allowed ≡ Some 0) → RunsTo p found jobs turns now left
-  is_run now left allowed way (inl none) = record { used = way.used; on = way.on; keeps = way.keeps; ends = inl none }
-  is_run now left allowed way (inr none) =
-      record { used = way.used; on = way.on; keeps = way.keeps; ends = inr (all_used turns way.used way.keeps (sym way.rest ∙ none)) }
+  -- what is left in order goes on, and covers the same
+  abbrev GoesOnSorted : ProblemParts → List (List ℕ) → List (List (List ℕ)) → List (List ℕ) → List (List (List ℕ)) → Type 0
+  GoesOnSorted q now left sorted after = (before : List (List ℕ)) (begun : List (List (List ℕ))) (spent : ℕ) → WentOn q before begun now left spent → CanGoOn q sorted after
+
+  abbrev CoversSorted : ProblemParts → List (List ℕ) → List (List (List ℕ)) → List (List ℕ) → List (List (List ℕ)) → Type 0
+  CoversSorted q now left sorted after = (before : List (List ℕ)) (begun : List (List (List ℕ))) (spent : ℕ) → WentOn q before begun now left spent
+      → (calling : List ℕ) → Covers q sorted (nodes_of_jobs after) calling ↔ Covers q before (nodes_of_jobs begun) calling
+
+  -- no job is left, or no turn is allowed, and what was found is sorted
+  pub is_run : (q : ProblemParts) (now sorted : List (List ℕ)) (left after : List (List (List ℕ))) (allowed : Option ℕ) → q ≡ p → after ≡ left
+      → GoesOnSorted q now left sorted after → CoversSorted q now left sorted after
+      → UnderWay p found jobs turns now left allowed → (left ≡ []) ⊎ (allowed ≡ Some 0) → RunsTo p found jobs turns sorted after
+  is_run q now sorted left after allowed same is on covers way over = record {
+    used = way.used;
+    on = record {
+      goes_on = subst (λ r. GoesOnSorted r now left sorted after) same on found jobs way.used way.way;
+      covers = subst (λ r. CoversSorted r now left sorted after) same covers found jobs way.used way.way;
+      size = ap (λ js. size_of_jobs p js + way.used) is ∙ way.way.nodes.size;
+    };
+    keeps = way.keeps;
+    ends = elim over [
+      | inl none ↦ inl (is ∙ none)
+      | inr none ↦ inr (all_used turns way.used way.keeps (sym way.rest ∙ none))
+    ];
+  }
 
 -- jobs that there are have nodes
 pub some_jobs : (jobs : List (List (List ℕ))) → All (λ job. 0 < length job) jobs → (jobs ≡ [] → ⊥) → 0 < length (nodes_of_jobs jobs)
@@ -123,33 +165,22 @@ module _ (p : ProblemParts) (sound : IsSound p)
   some_nodes [] some = absurd (omega (arith, some))
   some_nodes (node ∷ nodes) some = omega (arith, of_first p most_rows node nodes, of_node p most_rows node sound)
 
-  pub has_size : (found : List (List ℕ)) (jobs : List (List (List ℕ))) → CanGoOn p found jobs → (jobs ≡ [] → ⊥) → 1 ≤ size_of_jobs p jobs
-  has_size found jobs on some = some_nodes (nodes_of_jobs jobs) (some_jobs jobs on.filled some)
-
   -- a board makes the size less
-  pub shrinks : (now later : List (List ℕ)) (left rest : List (List (List ℕ))) (allowed : Option ℕ) (most more : ℕ) → 0 < most
-      → CanGoOn p now left → (((left ≡ []) ⊎ (allowed ≡ Some 0)) → ⊥) → BoardRan p now left (board_turns allowed most) later rest more
+  pub shrinks : (left rest : List (List (List ℕ))) (more : List (List ℕ)) (allowed : Option ℕ) (most used : ℕ) → 0 < most
+      → All (λ job. 0 < length job) left → (((left ≡ []) ⊎ (allowed ≡ Some 0)) → ⊥) → BoardRan p left (board_turns allowed most) more rest used
       → size_of_jobs p rest < size_of_jobs p left
-  shrinks now later left rest allowed most more some on going ran = elim ran.ends [
+  shrinks left rest more allowed most used some filled going ran = elim ran.ends [
     | inl none ↦ let nothing : size_of_jobs p rest ≡ 0 = ap (size_of_jobs p) none ∙ of_none p most_rows in omega (arith, nothing, before)
-    | inr is ↦ omega (arith, is, ran.on.size, allows allowed (λ none. going (inr none)))
+    | inr is ↦ omega (arith, is, ran.nodes.size, allows allowed (λ none. going (inr none)))
   ]
     where
       before : 1 ≤ size_of_jobs p left
-      before = has_size now left on (λ none. going (inl none))
+      before = some_nodes (nodes_of_jobs left) (some_jobs left filled (λ none. going (inl none)))
 
       allows : (allowed : Option ℕ) → (allowed ≡ Some 0 → ⊥) → 1 ≤ board_turns allowed most
       allows None not = omega (arith, some)
       allows (Some zero) not = absurd (not refl)
       allows (Some (suc turns)) not = omega (arith, some)
-
--- what holds of a board that was run from an opening, and of what it leaves
-abbrev pub HasRun : OpeningParts → List (List ℕ) → List (List (List ℕ)) → ℕ → Type 0
-HasRun o now left spent = CanGoOn o.problem now left
-    × ((calling : List ℕ) → Covers o.problem now (nodes_of_jobs left) calling ↔ Covers o.problem o.found (opening_nodes o) calling)
-    × (size_of_jobs o.problem left + spent ≡ size_of_all o.problem most_rows (opening_nodes o))
-    × ((left ≡ []) ⊎ (o.budget ≡ Some spent))
-    × ((budget : ℕ) → o.budget ≡ Some budget → spent ≤ budget)
 
 -- no board spends more than its budget
 pub keeps_budget : (b : BoardParts) → IsKept b
@@ -161,26 +192,33 @@ keeps_budget b kept within budget is =
     omega (arith, same, within b.opening b.journal budget kept.opening.some kept.replayed.allowed is)
 
 -- the jobs that a board leaves are none where it has none
-pub leaves_none : (b : BoardParts) (left : List (List (List ℕ))) → left ≡ board_jobs b → HasEnded b
+leaves_none : (b : BoardParts) (left : List (List (List ℕ))) → left ≡ board_jobs b → HasEnded b
     → (left ≡ []) ⊎ (b.opening.budget ≡ Some b.spent)
 leaves_none b left is (inl none) = inl (is ∙ ap (map (λ job. job.nodes)) none)
 leaves_none b left is (inr spent) = inr spent
 
--- a board that was opened from what was left goes on from there
-pub board_ran : (p : ProblemParts) (found : List (List ℕ)) (jobs : List (List (List ℕ))) (turns workers : ℕ) (o : OpeningParts)
-    (now : List (List ℕ)) (left : List (List (List ℕ))) (spent : ℕ) → o ≡ opening_from p found jobs (Some turns) workers
-    → HasRun o now left spent → BoardRan p found jobs turns now left spent
-board_ran p found jobs turns workers o now left spent is has = from (subst (λ x. HasRun x now left spent) is has)
-  where
-    same : Some turns ≡ Some spent → turns ≡ spent
-    same is = cc
+-- the nodes of jobs
+nodes_are : (jobs : List JobParts) → nodes_of_jobs (map (λ job. job.nodes) jobs) ≡ nodes_in jobs
+nodes_are [] = refl
+nodes_are (job ∷ jobs) = ap (λ l. job.nodes ++ l) (nodes_are jobs)
 
-    from : HasRun (opening_from p found jobs (Some turns) workers) now left spent → BoardRan p found jobs turns now left spent
-    from has = record {
-      on = record { goes_on = has.0; covers = has.1; size = has.2 };
-      keeps = has.4 turns refl;
-      ends = elim has.3 [
-        | inl none ↦ inl none
-        | inr all ↦ inr (same all)
-      ];
-    }
+-- a board that was opened from jobs goes on from there
+pub board_ran : (p : ProblemParts) (jobs : List (List (List ℕ))) (turns workers : ℕ) (b : BoardParts) (now : List (List ℕ)) (left : List (List (List ℕ))) (spent : ℕ)
+    → IsKept b → HasEnded b → spent ≤ turns → spent ≡ b.spent → now ≡ b.found → left ≡ board_jobs b → b.opening ≡ opening_from p [] jobs (Some turns) workers
+    → BoardRan p jobs turns now left spent
+board_ran p jobs turns workers b now left spent kept ended few spent_is now_is left_is opened = record {
+  nodes = subst (λ o. IsPartition o.problem o.found (opening_nodes o) now (nodes_of_jobs left) spent) opened
+      (subst (λ s. IsPartition b.opening.problem b.opening.found (opening_nodes b.opening) now (nodes_of_jobs left) s) (sym spent_is)
+      (subst (λ f. IsPartition b.opening.problem b.opening.found (opening_nodes b.opening) f (nodes_of_jobs left) b.spent) (sym now_is)
+      (subst (λ ns. IsPartition b.opening.problem b.opening.found (opening_nodes b.opening) b.found ns b.spent) (sym (ap nodes_of_jobs left_is ∙ nodes_are (jobs_of b)))
+      kept.partition.nodes)));
+  filled = subst (All (λ job. 0 < length job)) (sym left_is) (All-map (λ job. 0 < length job) (λ job. job.nodes) (jobs_of b) kept.partition.filled);
+  keeps = few;
+  ends = elim (leaves_none b left left_is ended) [
+    | inl none ↦ inl none
+    | inr all ↦ inr (same (sym (ap (λ o. o.budget) opened) ∙ all) ∙ sym spent_is)
+  ];
+}
+  where
+    same : Some turns ≡ Some b.spent → turns ≡ b.spent
+    same is = cc

@@ -13,7 +13,7 @@ use Rattle.cr_model.specs.Checkpoints.{CanGoOn, CheckFile, IsCheckpoint, checkpo
 use Rattle.cr_top.specs.Runs.{size_of_jobs, KeepsTo, RunsTo, StopsAfter}
 use Rattle.cr_top.specs.Texts.{IsBookOf, IsStopOf, IsReached, IsTextAfter}
 use Rattle.cr_top.specs.Starts.{IsStart}
-use Rattle.cr_top.proofs.Going.{book_found, some_jobs}
+use Rattle.cr_top.proofs.Going.{book_found, none_ascend, some_jobs}
 
 -- a checkpoint's text begins as one
 pub checkpoint_begins : (p : ProblemParts) (bytes text : List ℕ) (found : List (List ℕ)) (jobs : List (List (List ℕ)))
@@ -100,11 +100,6 @@ module _ (input bytes : List ℕ) (p : ProblemParts) (found : List (List ℕ)) (
       → IsReached turns input text stopped
   reached text None stops is = book_reached text stops is
   reached text (Some after) stops is = checkpoint_reached text after stops is
-
--- no calling is in order
-none_ascend : {K : Type 0} (cmp : K → K → Ordering) → IsStrictlySortedBy cmp []
-unfolding IsStrictlySortedBy
-none_ascend cmp = tt
 
 -- a search that has not begun goes on from the root
 root_filled : All (λ (job : List (List ℕ)). 0 < length job) (([] ∷ []) ∷ [])

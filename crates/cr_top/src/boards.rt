@@ -1,19 +1,20 @@
 //! Boards, one after another, until no job is left or the turns that are allowed are used.
 
-ghost use Rattle.std.specs.Prelude.{◌≡◌, ◌<◌, ◌≤◌, ◌⊎◌, ◌↔◌, [], Some, IsTrue, IfOk};
+ghost use Rattle.std.specs.Prelude.{◌≡◌, ◌<◌, ◌≤◌, ◌⊎◌, ◌↔◌, ◌++◌, [], Some, IsTrue, IfOk, OnOk};
 ghost use Rattle.cr_model.specs.Checkpoints.{CanGoOn};
 ghost use Rattle.cr_run.specs.Runs.{IsRun};
 ghost use Rattle.cr_store.specs.Written.{lists};
 ghost use Rattle.cr_top.specs.Runs.{KeepsTo, BoardRan, RunsTo, board_turns, turns_after};
 
-use cr_board::laws::journals_tell_boards;
+use cr_board::laws::{journals_tell_boards, partitions_follow_one_another};
 use cr_board::{Board, Opening};
+use cr_model::Calling;
 use cr_model::laws::sizes_are_sums;
-use cr_node::Explorer;
+use cr_node::{Explorer, Node};
 use cr_row::NoMemory;
 use cr_run::laws::boards_at_rest;
 use cr_run::{run_alone, run_workers};
-use cr_store::{Left, left_of};
+use cr_store::{Left, left_in_order};
 use std::alloc::Global;
 use std::sync::Wait;
 use std::thread::Threads;
@@ -21,8 +22,9 @@ use std::thread::Threads;
 /// The most turns of one board, 2^26: its journal has two entries for each grant of 4,096 turns, and is dropped with it.
 pub const BOARD_TURNS: u64 = 67_108_864;
 
-/// Goes on with a search by so many workers, on boards of at most so many turns each, until no job is left or the turns that are allowed are
-/// used. Err where no memory is left.
+/// Goes on with a search by so many workers, on boards of at most so many turns each, until no job is left or the turns
+/// that are allowed are used. Each board is opened with the jobs alone: what was found stands aside, in one list, and is
+/// sorted once, at the end. Err where no memory is left.
 pub fn run<R: AllocGlobal + Threads + Wait + Sync, E: Explorer + Sync>(
     rt: &R,
     workers: u32,
@@ -38,23 +40,36 @@ pub fn run<R: AllocGlobal + Threads + Wait + Sync, E: Explorer + Sync>(
     ensures { IfOk result (λ now. RunsTo (E.explores explorer.now) left.found.items (lists left.jobs.items) turns
         now.found.items (lists now.jobs.items)) }
 {
+    partitions_follow_one_another();
     sizes_are_sums();
-    let _ = explorer.problem().stage();
-    let mut now = left;
+    let problem = explorer.problem();
+    let _ = problem.stage();
+    let mut found = left.found;
+    let mut jobs = left.jobs;
     let mut allowed = turns;
-    while !is_over(&now, allowed) {
-        let (left, used) = run_board(rt, workers, explorer, now, granted(allowed, most))?;
-        now = left;
-        allowed = without(allowed, used);
+    while !is_over(&jobs, allowed) {
+        let ran = run_board(rt, workers, explorer, jobs, granted(allowed, most))?;
+        put_behind(&mut found, ran.found)?;
+        jobs = ran.jobs;
+        allowed = without(allowed, ran.used);
     }
+    let now = left_in_order(rt.alloc(), problem, found, jobs)?;
     Ok(now)
 }
 
-// Whether no job is left, or no turn is allowed.
-fn is_over(left: &Left, turns: Option<u64>) -> bool
-    ensures { IsTrue result ↔ ((lists left.now.jobs.items ≡ []) ⊎ (turns ≡ Some 0)) }
+// Moves what a board found behind what was found before.
+fn put_behind(found: &mut Vec<Calling>, mut more: Vec<Calling>) -> Result<(), NoMemory>
+    ensures { OnOk result (found.new.items ≡ found.old.items ++ more.items) }
 {
-    left.jobs.is_empty() || turns == Some(0)
+    found.append(&mut more)?;
+    Ok(())
+}
+
+// Whether no job is left, or no turn is allowed.
+fn is_over(jobs: &[Vec<Node>], turns: Option<u64>) -> bool
+    ensures { IsTrue result ↔ ((lists jobs.now ≡ []) ⊎ (turns ≡ Some 0)) }
+{
+    jobs.is_empty() || turns == Some(0)
 }
 
 // How many turns a board may take.
@@ -78,27 +93,39 @@ fn without(turns: Option<u64>, used: u64) -> Option<u64>
     }
 }
 
-// Opens a board of what is left and runs it until no job is left or so many turns are used; with how many were.
+// What a board found and the jobs that it left, and how many turns it used.
+#[derive(Drop)]
+struct Ran {
+    found: Vec<Calling>,
+    jobs: Vec<Vec<Node>>,
+    used: u64,
+}
+
+// Opens a board of the jobs that are left and runs it until no job is left or so many turns are used.
 fn run_board<R: AllocGlobal + Threads + Wait + Sync, E: Explorer + Sync>(
     rt: &R,
     workers: u32,
     explorer: &E,
-    left: Left,
+    jobs: Vec<Vec<Node>>,
     turns: u64,
-) -> Result<(Left, u64), NoMemory>
-    requires goes_on { CanGoOn (E.explores explorer.now) left.found.items (lists left.jobs.items) }
+) -> Result<Ran, NoMemory>
+    requires goes_on { CanGoOn (E.explores explorer.now) [] (lists jobs.items) }
     requires some_workers { 1 ≤ workers }
     requires few_workers { workers ≤ 64 }
-    ensures { IfOk result (λ ran. BoardRan (E.explores explorer.now) left.found.items (lists left.jobs.items) turns
-        ran.0.found.items (lists ran.0.jobs.items) ran.1) }
+    ensures { IfOk result (λ ran. BoardRan (E.explores explorer.now) (lists jobs.items) turns ran.found.items (lists ran.jobs.items) ran.used) }
 {
     journals_tell_boards();
     let alloc = rt.alloc();
     let problem = explorer.problem().copy(alloc)?;
-    let opening = Opening::new(problem, left.found, left.jobs, Some(turns), workers);
+    let opening = Opening::new(problem, Vec::new(alloc), jobs, Some(turns), workers);
     let board = run_opening(rt, opening, explorer)?;
-    let left = left_of(alloc, &board)?;
-    Ok((left, board.spent() as u64))
+    let used = board.spent() as u64;
+    let parts = board.into_parts(alloc)?;
+    Ok(Ran {
+        found: parts.found,
+        jobs: parts.jobs,
+        used,
+    })
 }
 
 // Runs a board of an opening to its end, by as many workers as it has. One alone takes no lock.

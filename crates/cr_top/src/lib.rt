@@ -3,6 +3,8 @@
 #![tactic(auto)]
 
 mod boards;
+#[cfg(test)]
+mod fault_tests;
 mod gate;
 mod making;
 mod notes;

@@ -11,7 +11,7 @@ ghost use Rattle.cr_top.specs.Made.{made_length, made_problem as problem_made_of
 use crate::boards::{BOARD_TURNS, run};
 use crate::start::all_of;
 use cr_book::summary_text;
-use cr_explore::RowSearch;
+use cr_explore::make_search;
 use cr_model::{Calling, Lead, Problem, Query, Step};
 use cr_row::{Change, NoMemory, Stage};
 use std::alloc::Global;
@@ -47,7 +47,7 @@ fn book_of<R: AllocGlobal + Threads + Wait + Sync>(
     ensures { IfOk result (λ book. IsBook problem.now [] ([] ∷ []) book.items) }
 {
     let alloc = rt.alloc();
-    let search = RowSearch::new(alloc, problem)?;
+    let search = make_search(rt, alloc, problem)?;
     let all = all_of(alloc, problem)?;
     let left = run(rt, workers, &search, all, None, BOARD_TURNS)?;
     Ok(left.found)

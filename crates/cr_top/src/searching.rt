@@ -15,7 +15,7 @@ use crate::gate::{Gate, Gated};
 use crate::outcome::Outcome;
 use crate::start::{Start, start_of};
 use cr_book::book_text;
-use cr_explore::RowSearch;
+use cr_explore::make_search;
 use cr_model::Problem;
 use cr_model::laws::sizes_are_sums;
 use cr_row::NoMemory;
@@ -88,7 +88,7 @@ fn run_behind<R: AllocGlobal + Threads + Wait + Sync, G: Gate + Sync>(
     requires few_workers { workers ≤ 64 }
     ensures { IfOk result (λ now. RunsTo problem.now left.found.items (lists left.jobs.items) turns now.found.items (lists now.jobs.items)) }
 {
-    let search = RowSearch::new(rt.alloc(), problem)?;
+    let search = make_search(rt, rt.alloc(), problem)?;
     let gated = Gated {
         explorer: &search,
         gate,

@@ -1,28 +1,41 @@
-use Rattle.std.proofs.Common.{sym, ◌∙◌, subst}
+use Rattle.std.proofs.Common.{◌≡◌, ◌⊎◌, ◌++◌, [], Some, sym, ap, ◌∙◌, subst}
 use Rattle.std.proofs.lemmas.Bool.{false≢true}
 use Rattle.cr_model.specs.Sound.{IsSound}
 use Rattle.cr_store.specs.Written.{lists}
-use Rattle.cr_top.specs.Runs.{UnderWay, BoardRan}
-use Rattle.cr_top.proofs.Going.{begins, goes_on, shrinks}
+use Rattle.cr_top.specs.Runs.{UnderWay, BoardRan, turns_after}
+use Rattle.cr_top.proofs.Going.{can_open, goes_on, shrinks, is_run}
 use Rattle.cr_top.proofs.boards.run.Goals as goal
 
-pub loop-allowed-init : goal.loop-allowed-init
-loop-allowed-init g c = begins _ _ _ _ c.requires.goes_on
+pub run_board-requires-clause-goes_on : goal.run_board-requires-clause-goes_on
+run_board-requires-clause-goes_on g c = λ κs lives.
+    let way = c.loop-allowed.invariant in
+    can_open (g.E.Explorer.explores c.args.explorer.now) c.args.left.found.items (lists c.args.left.jobs.items) c.loop-allowed.found.items (lists c.loop-allowed.jobs.items) way.used way.way
 
 pub loop-allowed-smaller : goal.loop-allowed-smaller
-loop-allowed-smaller g c = shrinks (g.E.Explorer.explores c.args.explorer.now) (subst IsSound c.problem.ensures c.stage.ensures.sound)
+loop-allowed-smaller g c = shrinks (g.E.Explorer.explores c.args.explorer.now) (subst IsSound c.problem-problem.ensures c.stage.ensures.sound)
     c.sizes_are_sums.ensures.node c.sizes_are_sums.ensures.first c.sizes_are_sums.ensures.none
-    c.loop-allowed.now.found.items c.in_ok-left.left.found.items (lists c.loop-allowed.now.jobs.items) (lists c.in_ok-left.left.jobs.items)
-    c.loop-allowed.allowed c.args.most c.in_ok-left.used c.requires.some c.loop-allowed.invariant.on.goes_on
-    (λ over. false≢true (sym c.loop-allowed-test.true ∙ c.is_over.ensures.1 over))
-    (subst (λ most. BoardRan (g.E.Explorer.explores c.args.explorer.now) c.loop-allowed.now.found.items (lists c.loop-allowed.now.jobs.items) most
-    c.in_ok-left.left.found.items (lists c.in_ok-left.left.jobs.items) c.in_ok-left.used) c.granted.ensures c.in_ok-left.ensures)
+    (lists c.loop-allowed.jobs.items) (lists c.in_ok-ran.ran.jobs.items) c.in_ok-ran.ran.found.items
+    c.loop-allowed.allowed c.args.most c.in_ok-ran.ran.used c.requires.some c.loop-allowed.invariant.way.filled
+    (λ over. false≢true (sym c.loop-allowed-test.true
+    ∙ c.is_over.ensures.1 (subst (λ js. (lists js ≡ []) ⊎ (c.loop-allowed.allowed ≡ Some 0)) (sym c.deref.ensures.value) over)))
+    (subst (λ most. BoardRan (g.E.Explorer.explores c.args.explorer.now) (lists c.loop-allowed.jobs.items) most
+    c.in_ok-ran.ran.found.items (lists c.in_ok-ran.ran.jobs.items) c.in_ok-ran.ran.used) c.granted.ensures c.in_ok-ran.ensures)
 
 pub loop-allowed-preserved : goal.loop-allowed-preserved
-loop-allowed-preserved g c = subst (UnderWay (g.E.Explorer.explores c.args.explorer.now) c.args.left.found.items (lists c.args.left.jobs.items) c.args.turns
-    c.in_ok-left.left.found.items (lists c.in_ok-left.left.jobs.items)) (sym c.without-allowed.ensures)
-    (goes_on (g.E.Explorer.explores c.args.explorer.now) c.args.left.found.items (lists c.args.left.jobs.items) c.args.turns
-    c.loop-allowed.now.found.items c.in_ok-left.left.found.items (lists c.loop-allowed.now.jobs.items) (lists c.in_ok-left.left.jobs.items)
-    c.loop-allowed.allowed c.args.most c.in_ok-left.used c.loop-allowed.invariant
-    (subst (λ most. BoardRan (g.E.Explorer.explores c.args.explorer.now) c.loop-allowed.now.found.items (lists c.loop-allowed.now.jobs.items) most
-    c.in_ok-left.left.found.items (lists c.in_ok-left.left.jobs.items) c.in_ok-left.used) c.granted.ensures c.in_ok-left.ensures))
+loop-allowed-preserved g c =
+    let on = goes_on (g.E.Explorer.explores c.args.explorer.now) c.args.left.found.items (lists c.args.left.jobs.items) c.args.turns
+    c.partitions_follow_one_another.ensures.onward
+    c.loop-allowed.found.items c.in_ok-ran.ran.found.items (lists c.loop-allowed.jobs.items) (lists c.in_ok-ran.ran.jobs.items)
+    c.loop-allowed.allowed c.args.most c.in_ok-ran.ran.used c.loop-allowed.invariant
+    (subst (λ most. BoardRan (g.E.Explorer.explores c.args.explorer.now) (lists c.loop-allowed.jobs.items) most
+    c.in_ok-ran.ran.found.items (lists c.in_ok-ran.ran.jobs.items) c.in_ok-ran.ran.used) c.granted.ensures c.in_ok-ran.ensures) in
+    subst (λ f. UnderWay (g.E.Explorer.explores c.args.explorer.now) c.args.left.found.items (lists c.args.left.jobs.items) c.args.turns
+    f (lists c.in_ok-ran.ran.jobs.items) c.without-allowed.result) (sym c.in_ok-put_behind.ensures)
+    (subst (λ turns. UnderWay (g.E.Explorer.explores c.args.explorer.now) c.args.left.found.items (lists c.args.left.jobs.items) c.args.turns
+    (c.loop-allowed.found.items ++ c.in_ok-ran.ran.found.items) (lists c.in_ok-ran.ran.jobs.items) turns) (sym c.without-allowed.ensures) on)
+
+pub returns : goal.returns
+returns g c = is_run (g.E.Explorer.explores c.args.explorer.now) c.args.left.found.items (lists c.args.left.jobs.items) c.args.turns
+    c.problem-problem.result.now c.loop-allowed.found.items c.in_ok-now.now.found.items (lists c.loop-allowed.jobs.items) (lists c.in_ok-now.now.jobs.items) c.loop-allowed.allowed
+    c.problem-problem.ensures c.in_ok-now.ensures.jobs c.in_ok-now.ensures.goes_on c.in_ok-now.ensures.covers c.loop-allowed.invariant
+    (subst (λ js. (lists js ≡ []) ⊎ (c.loop-allowed.allowed ≡ Some 0)) c.deref.ensures.value (c.is_over.ensures.0 c.loop-allowed-test.false))
