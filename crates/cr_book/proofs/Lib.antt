@@ -4,3 +4,4 @@ pub mod LeadTexts
 pub mod WrongPlaces
 pub mod Sorting
 pub mod Tallies
+pub mod Dealing

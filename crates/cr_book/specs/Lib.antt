@@ -2,3 +2,4 @@ pub mod Readings
 pub mod Reads
 pub mod Leads
 pub mod Measures
+pub mod Dealt

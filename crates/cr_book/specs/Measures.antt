@@ -1,37 +1,28 @@
--- Touches with their lengths, in the order of the book.
-use Rattle.std.specs.Prelude.{◌≡◌, ℕ, Bool, List, nat_eq}
-use Rattle.std.specs.Cmp.{IsTotalOrder, IsEquivalence, both_tied}
-use Rattle.std.specs.Cmp.Lexicographic.{slice_cmp, pointwise}
-use Rattle.std.specs.Ordering.{nat_cmp, on, then_cmp, eq_of_both, is_eq}
-use Rattle.std.specs.declared.cmp.Ordering.{Ordering}
-use Rattle.std.proofs.Common.{arith, sym}
-use Rattle.std.proofs.lemmas.Bool.Decides.{nat_tests}
-use Rattle.std.proofs.lemmas.Cmp.{on_total, then_total, on_equiv, and_equiv, nat_eq_equiv, nat_list_eq_equiv, nat_cmp_total, nat_list_cmp_total}
-use Rattle.std.proofs.lemmas.Map.Text.{is_eq-slice_cmp}
+-- Lengths of callings, by a table of the lengths of leads.
+use Rattle.std.specs.Prelude.{◌≡◌, ℕ, ◌<◌, List, length, get_or, sum_by}
 use Rattle.cr_model.specs.Problems.{ProblemParts}
-use Rattle.cr_model.specs.Callings.{length_of}
+use Rattle.cr_model.specs.Callings.{lead_length, letter_of, mark_of}
 
--- a calling with its length before it
-abbrev pub measured : ProblemParts → List ℕ → ℕ × List ℕ
-measured p calling = (length_of p calling, calling)
+-- the table has the length of each lead
+abbrev pub HasLengths : ProblemParts → List ℕ → Type 0
+HasLengths p lengths = (step : ℕ) → step < length p.leads → get_or lengths step 0 ≡ lead_length p step
 
--- by the length, and then by the list of step numbers
-abbrev pub measured_cmp : ℕ × List ℕ → ℕ × List ℕ → Ordering
-measured_cmp = then_cmp (on (λ m. m.0) nat_cmp) (on (λ m. m.1) (slice_cmp nat_cmp))
+-- the lengths of some steps, added up; what is not in the table counts as 0
+abbrev pub added : List ℕ → List ℕ → ℕ
+added lengths calling = sum_by (λ step. get_or lengths step 0) calling
 
-pub measured_cmp_total : IsTotalOrder measured_cmp
-measured_cmp_total = then_total (on_total (λ m. m.0) nat_cmp_total) (on_total (λ m. m.1) nat_list_cmp_total)
+-- the tables have the letter of each lead's method, and its mark
+abbrev pub HasLetters : ProblemParts → List ℕ → Type 0
+HasLetters p letters = (step : ℕ) → step < length p.leads → get_or letters step 0 ≡ letter_of p step
 
-abbrev pub measured_eq : ℕ × List ℕ → ℕ × List ℕ → Bool
-measured_eq = eq_of_both (on (λ m. m.0) nat_eq) (on (λ m. m.1) (pointwise nat_eq))
+abbrev pub HasMarks : ProblemParts → List ℕ → Type 0
+HasMarks p marks = (step : ℕ) → step < length p.leads → get_or marks step 0 ≡ mark_of p step
 
-pub measured_eq_equiv : IsEquivalence measured_eq
-measured_eq_equiv = and_equiv (on_equiv (λ m. m.0) nat_eq_equiv) (on_equiv (λ m. m.1) nat_list_eq_equiv)
-
-numbers_tie : (a b : ℕ) → nat_eq a b ≡ is_eq (nat_cmp a b)
-numbers_tie a b = grind (arith, nat_tests)
-
--- touches that are equal are those that tie in the order
-pub measured_eq_ties : (a b : ℕ × List ℕ) → measured_eq a b ≡ is_eq (measured_cmp a b)
-measured_eq_ties a b =
-    both_tied (nat_eq a.0 b.0) (pointwise nat_eq a.1 b.1) (nat_cmp a.0 b.0) (slice_cmp nat_cmp a.1 b.1) (numbers_tie a.0 b.0) (sym (is_eq-slice_cmp a.1 b.1))
+-- the letters and the marks that are written of the leads, and their lengths
+pub record AreTexts (p : ProblemParts) (letters marks lengths : List ℕ) : Type 0 where
+  pub many_letters : length letters ≡ 256
+  pub many_marks : length marks ≡ 256
+  pub many_lengths : length lengths ≡ 256
+  pub each_letter : HasLetters p letters
+  pub each_mark : HasMarks p marks
+  pub each_length : HasLengths p lengths

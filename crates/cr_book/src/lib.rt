@@ -4,6 +4,7 @@
 
 mod fault;
 pub mod laws;
+mod lengths;
 mod order;
 mod reading;
 mod steps;

@@ -73,8 +73,8 @@ fn count_lengths(alloc: Global, problem: &Problem, book: &[Calling]) -> Result<V
     Ok(numbers)
 }
 
-// Appends zeros, until there is a number for a length.
-fn grow(numbers: &mut Vec<u64>, long: usize) -> Result<(), NoMemory>
+/// Appends zeros, until there is a number for a length.
+pub fn grow(numbers: &mut Vec<u64>, long: usize) -> Result<(), NoMemory>
     ensures size { IfOk result (λ _. length numbers.new.items ≡ max (length numbers.old.items) (long + 1)) }
     ensures each { IfOk result (λ _. (k : ℕ) → get_or numbers.new.items k 0 ≡ get_or numbers.old.items k 0) }
 {

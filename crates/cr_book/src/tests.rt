@@ -120,8 +120,35 @@ fn all_known(problem: &Problem, callings: &[Calling]) -> bool
         .all(|calling| problem.has_steps(calling.steps()))
 }
 
-// The touches of Plain Bob Doubles, not in order: two of them have 60 changes once one more is put in.
-const FOUND: [&[u8]; 6] = [
+// The touches of Plain Bob Doubles, and one of 60 changes that is no touch's least rotation, as a search finds them.
+const IN_ORDER: [&[u8]; 6] = [
+    &[0, 0, 0, 0],
+    &[0, 0, 0, 1, 0, 0, 0, 1, 0, 0, 0, 1],
+    &[0, 0, 1, 0, 1, 0, 0, 1, 0, 1],
+    &[0, 1, 0, 1, 0, 1],
+    &[1, 0, 1, 0, 1, 0],
+    &[1, 1],
+];
+
+const IN_REVERSE: [&[u8]; 6] = [
+    &[1, 1],
+    &[1, 0, 1, 0, 1, 0],
+    &[0, 1, 0, 1, 0, 1],
+    &[0, 0, 1, 0, 1, 0, 0, 1, 0, 1],
+    &[0, 0, 0, 1, 0, 0, 0, 1, 0, 0, 0, 1],
+    &[0, 0, 0, 0],
+];
+
+const TWO_RUNS: [&[u8]; 6] = [
+    &[0, 0, 0, 1, 0, 0, 0, 1, 0, 0, 0, 1],
+    &[1, 0, 1, 0, 1, 0],
+    &[1, 1],
+    &[0, 0, 0, 0],
+    &[0, 0, 1, 0, 1, 0, 0, 1, 0, 1],
+    &[0, 1, 0, 1, 0, 1],
+];
+
+const MIXED: [&[u8]; 6] = [
     &[0, 0, 0, 1, 0, 0, 0, 1, 0, 0, 0, 1],
     &[0, 0, 0, 0],
     &[1, 0, 1, 0, 1, 0],
@@ -133,6 +160,24 @@ const FOUND: [&[u8]; 6] = [
 const SORTED: &str =
     "20 bb\n40 pppp\n60 pbpbpb\n60 bpbpbp\n100 ppbpbppbpb\n120 pppbpppbpppb\ntouches 6\n";
 
+const ONE_LENGTH: [&[u8]; 4] = [&[1, 0, 1], &[0, 1, 1], &[1, 0, 0], &[0, 0, 1]];
+
+const ONE_STEP: [&[u8]; 1] = [&[1]];
+
+const TWICE: [&[u8]; 3] = [&[1, 1], &[0], &[1, 1]];
+
+// The callings as they were found, and the book of them.
+const SORTINGS: [(&[&[u8]], &str); 8] = [
+    (&IN_ORDER, SORTED),
+    (&IN_REVERSE, SORTED),
+    (&TWO_RUNS, SORTED),
+    (&MIXED, SORTED),
+    (&ONE_LENGTH, "30 ppb\n30 pbb\n30 bpp\n30 bpb\ntouches 4\n"),
+    (&ONE_STEP, "10 b\ntouches 1\n"),
+    (&TWICE, "10 p\n20 bb\n20 bb\ntouches 3\n"),
+    (&[], "touches 0\n"),
+];
+
 const BOOK: [&[u8]; 5] = [
     &[1, 1],
     &[0, 0, 0, 0],
@@ -143,20 +188,29 @@ const BOOK: [&[u8]; 5] = [
 
 const PRINTED: &str = "20 bb\n40 pppp\n60 pbpbpb\n100 ppbpbppbpb\n120 pppbpppbpppb\ntouches 5\n";
 
+// The book of callings that were found.
+fn sorted_text(alloc: Global, problem: &Problem, rows: &[&[u8]]) -> Result<Vec<u8>, Fail> {
+    let found = callings_of(alloc, rows)?;
+    if !all_known(problem, &found) {
+        return Err(Fail::from("the steps exist"));
+    }
+    let sorted = sort_found(alloc, problem, found)?;
+    if !all_known(problem, &sorted) {
+        return Err(Fail::from("the sorted steps exist"));
+    }
+    Ok(book_text(alloc, problem, &sorted)?)
+}
+
 #[test]
 fn found_touches_are_sorted(rt: HostRuntime) -> Result<(), Fail> {
     let alloc = rt.alloc();
     let problem = problem_of(alloc, DOUBLES)?;
-    let found = callings_of(alloc, &FOUND)?;
-    if !all_known(&problem, &found) {
-        return Err(Fail::from("the steps exist"));
+    for (rows, want) in SORTINGS {
+        let text = sorted_text(alloc, &problem, rows)?;
+        if text.as_slice() != want.as_bytes() {
+            return Err(Fail::from(want));
+        }
     }
-    let sorted = sort_found(alloc, &problem, found)?;
-    if !all_known(&problem, &sorted) {
-        return Err(Fail::from("the sorted steps exist"));
-    }
-    let text = book_text(alloc, &problem, &sorted)?;
-    assert!(rt; text.as_slice() == SORTED.as_bytes());
     Ok(())
 }
 

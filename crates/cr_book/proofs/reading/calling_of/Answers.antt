@@ -1,5 +1,5 @@
 -- Each lead is read on from the steps before it, and a wrong byte is the text's first.
-use Rattle.std.proofs.Common.{◌≡◌, ◌+◌, ◌<◌, [], ◌∷◌, ◌++◌, length, take, sym, ap, ◌∙◌, subst, arith}
+use Rattle.std.proofs.Common.{◌+◌, [], ◌∷◌, ◌++◌, take, sym, ap, ◌∙◌, subst, arith}
 use Rattle.std.proofs.lemmas.List.{take_rest}
 use Rattle.cr_book.specs.Leads.{lead_width, LeadIsWrong, IsReadTo}
 use Rattle.cr_book.proofs.WrongPlaces.{read_on, too_many, wrong_lead, all_read}
