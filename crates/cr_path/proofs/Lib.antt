@@ -11,4 +11,12 @@ pub mod Grown
 pub mod Bounds
 pub mod Lives
 pub mod Recorded
+pub mod Covering
+pub mod Names
+pub mod Told
 pub mod Minimus
+pub mod StepSets
+pub mod Kept
+pub mod Enough
+pub mod Counts
+pub mod Uncut

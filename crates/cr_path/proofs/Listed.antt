@@ -1,17 +1,15 @@
 -- Rows that stand among others, and rows by their numbers.
-use Rattle.std.proofs.Common.{◌≡◌, ℕ, ◌<◌, Bool, true, false, cond, not, ◌&&◌, ◌||◌, nat_eq, List, [], ◌∷◌, ◌++◌, length, get_or, map, All, refl, sym, ap, ap₂, ◌∙◌, inl, inr}
+use Rattle.std.proofs.Common.{◌≡◌, ℕ, ◌<◌, Bool, true, false, cond, not, ◌&&◌, ◌||◌, nat_eq, List, [], ◌∷◌, ◌++◌, length, get_or, map, All, refl, sym, ap, ap₂, ◌∙◌}
 use Rattle.std.specs.Cmp.Lexicographic.{pointwise}
 use Rattle.std.specs.List.{list_any, list_all}
-use Rattle.std.proofs.lemmas.Bool.{cases_order, false≢true, or_parts}
-use Rattle.std.proofs.lemmas.Bool.Decides.{same_from_decides, Decides-eqb, Decides-like}
+use Rattle.std.proofs.lemmas.Bool.{false≢true, or_parts}
 use Rattle.std.proofs.lemmas.Cmp.{nat_list_eq_equiv}
 use Rattle.std.proofs.lemmas.List.Elements.{All-head, All-tail}
 use Rattle.std.proofs.lemmas.List.Folds.{list_any-append, list_all-append}
 use Rattle.std.proofs.lemmas.Slice.Eq.{bytes_eq-Decides}
-use Rattle.cr_rowset.specs.Stacks.{AllDiffer}
 use Rattle.cr_model.specs.Decided.{rows_differ}
 use Rattle.cr_model.specs.Levels.{is_listed}
-use Rattle.cr_path.specs.Marks.{some_marked, numbers_differ}
+use Rattle.cr_path.specs.Marks.{some_marked}
 
 not_or : (a b : Bool) → not (a || b) ≡ (not a && not b)
 not_or true b = refl
@@ -21,7 +19,7 @@ pub and_true : (a : Bool) → (a && true) ≡ a
 and_true true = refl
 and_true false = refl
 
-or_mixed : (a b c d : Bool) → ((a || b) || (c || d)) ≡ ((a || c) || (b || d))
+pub or_mixed : (a b c d : Bool) → ((a || b) || (c || d)) ≡ ((a || c) || (b || d))
 or_mixed true b c d = refl
 or_mixed false true true d = refl
 or_mixed false true false d = refl
@@ -40,7 +38,7 @@ any_or : {X : Type 0} (f g : X → Bool) (xs : List X) → list_any (λ x. f x |
 any_or f g [] = refl
 any_or f g (x ∷ xs) = ap (λ rest. (f x || g x) || rest) (any_or f g xs) ∙ or_mixed (f x) (g x) (list_any f xs) (list_any g xs)
 
-any_none : {X : Type 0} (xs : List X) → list_any (λ _. false) xs ≡ false
+pub any_none : {X : Type 0} (xs : List X) → list_any (λ _. false) xs ≡ false
 any_none [] = refl
 any_none (x ∷ xs) = any_none xs
 
@@ -91,31 +89,6 @@ module _ (rows : List (List ℕ)) where
   some_are seen marks [] are within = refl
   some_are seen marks (number ∷ numbers) are within =
       ap₂ (λ a b. a || b) (are number (All-head (λ (n : ℕ). n < length rows) number numbers within)) (some_are seen marks numbers are (All-tail (λ (n : ℕ). n < length rows) number numbers within))
-
-  module _ (differ : AllDiffer rows) where
-    same_number : (i j : ℕ) → i < length rows → j < length rows → nat_eq i j ≡ pointwise nat_eq (at i) (at j)
-    same_number i j one two =
-        same_from_decides (nat_eq i j) (pointwise nat_eq (at i) (at j))
-        (Decides-like (nat_eq i j) (λ e. ap at e) (λ same. elim (cases_order i j) [
-          | inl e ↦ e
-          | inr (inl less) ↦ absurd (differ i j less two same)
-          | inr (inr more) ↦ absurd (differ j i more one (sym same))
-        ]) (Decides-eqb i j))
-        (bytes_eq-Decides (at i) (at j))
-
-    -- a number stands among some where its row is of theirs
-    pub number_listed : (number : ℕ) (numbers : List ℕ) → number < length rows → All (λ number. number < length rows) numbers → list_any (nat_eq number) numbers ≡ is_listed (map at numbers) (at number)
-    number_listed number [] inside within = refl
-    number_listed number (other ∷ numbers) inside within =
-        ap₂ (λ a b. a || b) (same_number number other inside (All-head (λ (n : ℕ). n < length rows) other numbers within)) (number_listed number numbers inside (All-tail (λ (n : ℕ). n < length rows) other numbers within))
-
-    -- they differ where their rows do
-    pub they_differ : (numbers : List ℕ) → All (λ number. number < length rows) numbers → numbers_differ numbers ≡ rows_differ (map at numbers)
-    they_differ [] within = refl
-    they_differ (number ∷ numbers) within =
-        let later = All-tail (λ (n : ℕ). n < length rows) number numbers within in
-        ap₂ (λ a b. not a && b) (number_listed number numbers (All-head (λ (n : ℕ). n < length rows) number numbers within) later) (they_differ numbers later)
-        ∙ ap (λ b. b && rows_differ (map at numbers)) (sym (none_like (at number) (map at numbers)))
 
 -- marks with those of more rows, and without them
 pub more_marked : (seen more : List (List ℕ)) (row : List ℕ) → cond (is_listed more row) true (is_listed seen row) ≡ is_listed (seen ++ more) row

@@ -1,9 +1,9 @@
 -- Which children of a node live.
-use Rattle.std.proofs.Common.{◌≡◌, ◌⊎◌, ℕ, zero, suc, ◌+◌, ◌-◌, ◌*◌, ◌<◌, ◌≤◌, Bool, true, false, cond, not, ◌&&◌, ◌||◌, nat_lt, List, [], ◌∷◌, ◌++◌, length, get_or, take, drop, find, Option, Some, None, is_none, refl, sym, ap, ap₂, ◌∙◌, subst, inl, inr, arith, length-append}
+use Rattle.std.proofs.Common.{◌≡◌, ◌⊎◌, ℕ, zero, suc, ◌+◌, ◌-◌, ◌*◌, ◌<◌, ◌≤◌, Bool, true, false, cond, not, ◌&&◌, ◌||◌, nat_lt, nat_le, List, [], ◌∷◌, ◌++◌, length, get_or, take, drop, find, Option, Some, None, is_none, refl, sym, ap, ap₂, ◌∙◌, subst, inl, inr, arith, length-append}
 use Rattle.std.specs.Bool.{Decides}
 use Rattle.std.specs.List.{list_any, range_with_len}
-use Rattle.std.proofs.lemmas.Bool.{and_parts, or_parts, or_left, or_right, not-true, not-false, false≢true, le-ltb, lt-ltb, ltb-false, cases_lt}
-use Rattle.std.proofs.lemmas.Bool.Decides.{same_from_decides}
+use Rattle.std.proofs.lemmas.Bool.{and_parts, or_parts, or_left, or_right, not-true, not-false, false≢true, ltb-false, cases_lt}
+use Rattle.std.proofs.lemmas.Bool.Decides.{same_from_decides, nat_tests}
 use Rattle.std.proofs.lemmas.List.{length_push}
 use Rattle.std.proofs.lemmas.List.Elements.{All-push}
 use Rattle.std.proofs.Math.Seq.{take-append-add, drop-append-add, drop-append_seam}
@@ -11,7 +11,7 @@ use Rattle.cr_row.specs.Rows.{rounds}
 use Rattle.cr_model.specs.declared.reason.Reason.{Reason}
 use Rattle.cr_model.specs.declared.reason.Reason.TheVariants as reason
 use Rattle.cr_model.specs.Problems.{ProblemParts}
-use Rattle.cr_model.specs.Callings.{shortest, lead_length, rows_of, length_of, head_of, changes_of_all}
+use Rattle.cr_model.specs.Callings.{shortest, lead_length, rows_of, length_of, head_of}
 use Rattle.cr_model.specs.Dead.{parts_of, has_rounds, is_long, is_self_false, is_again, is_home, is_far, is_too_many, is_too_few, is_turned_back, turn_free, turns_back, dead}
 use Rattle.cr_model.specs.Decided.{rows_differ}
 use Rattle.cr_model.specs.Levels.{at_least, is_listed}
@@ -20,20 +20,17 @@ use Rattle.cr_model.specs.Queries.{cap, part_cap}
 use Rattle.cr_model.specs.Sizes.{most_rows, child}
 use Rattle.cr_model.specs.Sound.{IsSound}
 use Rattle.cr_model.specs.Turning.{TurnsBack}
-use Rattle.cr_model.proofs.Bells.{rows_are_rows, last_is_row}
-use Rattle.cr_model.proofs.Deciding.{rows_differ_decided}
 use Rattle.cr_model.proofs.TurnedBack.{turns_back_decided}
 use Rattle.cr_query.specs.Meters.{is_hopeless_by_leads}
 use Rattle.cr_path.specs.declared.table.LeadRecord.{LeadRecord}
 use Rattle.cr_path.specs.declared.ends.LeadEnd.{LeadEnd}
 use Rattle.cr_path.specs.Ends.{IsEnd}
 use Rattle.cr_path.specs.Living.{is_clean, is_cut, is_hopeless, is_live, AreCut}
-use Rattle.cr_path.specs.Marks.{some_marked, AreMarked}
-use Rattle.cr_path.specs.Numbers.{NumberParts, lead_from, head_after, brings_home, dies_after, IsRecord, IsNumbered}
-use Rattle.cr_path.proofs.Children.{row_laws, child_rows, child_head, child_length, lead_long, some_changes, few_leads}
-use Rattle.cr_path.proofs.Listed.{differ_joined, listed_joined, some_are}
-use Rattle.cr_path.proofs.Marking.{numbers_in, within_in, all_fresh, marks_of}
-use Rattle.cr_path.proofs.Products.{products_differ}
+use Rattle.cr_path.specs.Marks.{some_marked, AreMarked, IsLead}
+use Rattle.cr_path.specs.Numbers.{NumberParts, lead_from, head_after, brings_home, dies_after, numbers_of, IsNumbered}
+use Rattle.cr_path.proofs.Children.{child_rows, child_head, child_length, lead_long, some_changes, few_leads}
+use Rattle.cr_path.proofs.Listed.{differ_joined, listed_joined}
+use Rattle.cr_path.proofs.Marking.{lead_differs, marked_told, all_fresh, marks_of}
 
 -- whether a word turns back, told by any test of it
 pub turned_told : (b free : Bool) (p : ProblemParts) (word : List ℕ) → free ≡ turn_free p.query → free ≡ true → Decides b (TurnsBack word) → b ≡ is_turned_back p word
@@ -76,10 +73,7 @@ module _ (p : ProblemParts) (node : List ℕ) (step : ℕ) where
 
   -- a lead that has no row twice
   true_lead : rows_differ (rows_of p (step ∷ [])) ≡ true → rows_differ (lead_from p (head_of p node) step) ≡ true
-  true_lead differ =
-      (rows_differ_decided (lead_from p (head_of p node) step)).1
-      (products_differ p.stage (head_of p node) (rows_of p (step ∷ [])) (last_is_row row_laws p.stage (changes_of_all p node)) (rows_are_rows row_laws p.stage (changes_of_all p (step ∷ [])))
-      ((rows_differ_decided (rows_of p (step ∷ []))).0 differ))
+  true_lead differ = lead_differs p node step ∙ differ
 
   again_child : rows_differ (rows_of p node) ≡ true → rows_differ (rows_of p (step ∷ [])) ≡ true → is_again p (child node step) ≡ list_any (is_listed (rows_of p node)) (lead_from p (head_of p node) step)
   again_child clean differ =
@@ -139,8 +133,8 @@ regrouped false true a h f k r same = ap (λ b. b || (h || (f || r))) (same refl
 
 -- a child of a clean node is cut by what its record, the marks, the period and the meter tell
 module _ (p : ProblemParts) (t : NumberParts) (node : List ℕ) (step : ℕ) (lead : LeadRecord) (marks : List Bool) (fresh : ℕ) (end : LeadEnd) (numbered : IsNumbered p t) (sound : IsSound p) (clean : is_clean p node ≡ true)
-    (inside : step < length p.leads) (known : IsRecord p t (head_of p node) step lead) (are : AreMarked p t node marks fresh) (at_end : IsEnd p t node end) where
-  cut_told : (not (nat_lt end.rung lead.limit) || (some_marked marks (numbers_in p t numbered lead) || (is_turned_back p (child node step) || is_hopeless_by_leads p (child node step)))) ≡ is_cut p most_rows (child node step)
+    (inside : step < length p.leads) (found : IsLead p t node step lead) (are : AreMarked p t node marks fresh) (at_end : IsEnd p t node end) (numbers : List ℕ) (is : numbers ≡ numbers_of t lead) where
+  cut_told : (not (nat_lt end.rung lead.limit) || (some_marked marks numbers || (is_turned_back p (child node step) || is_hopeless_by_leads p (child node step)))) ≡ is_cut p most_rows (child node step)
   cut_told =
       let head = head_of p node in
       let rows = lead_from p head step in
@@ -149,11 +143,8 @@ module _ (p : ProblemParts) (t : NumberParts) (node : List ℕ) (step : ℕ) (le
       let (differ, apart) = and_parts (rows_differ (rows_of p node)) (not (has_rounds p (rows_of p node))) clean in
       let none : has_rounds p (rows_of p node) ≡ false = not-true (has_rounds p (rows_of p node)) apart in
       let limit : not (nat_lt end.rung lead.limit) ≡ dies_after p head step (length_of p node) =
-      ap not (known.limit end.rung) ∙ twice (dies_after p head step end.rung) ∙ ap (dies_after p head step) at_end.long in
-      let marked : some_marked marks (numbers_in p t numbered lead) ≡ again =
-      some_are t.rows (rows_of p node) marks (numbers_in p t numbered lead) (marks_of p t node marks fresh are (all_fresh p t node marks fresh are differ)) (within_in p t numbered lead)
-      ∙ ap (list_any (is_listed (rows_of p node))) known.are in
-      ap₂ (λ a b. a || (b || rest)) limit marked
+      ap not (found.known.limit end.rung) ∙ twice (dies_after p head step end.rung) ∙ ap (dies_after p head step) at_end.long in
+      ap₂ (λ a b. a || (b || rest)) limit (marked_told p t numbered node marks fresh are differ step lead found numbers is)
       ∙ sym (regrouped (nat_lt (part_cap p) (length_of p node + lead_length p step)) (rows_differ (rows_of p (step ∷ []))) (is_again p (child node step)) (brings_home p rows)
       (nat_lt (cap p) (length_of p node + lead_length p step + shortest p * at_least p most_rows (head_after p head step))) again rest
       (λ holds. again_child p node step differ holds))
@@ -163,20 +154,26 @@ module _ (p : ProblemParts) (t : NumberParts) (node : List ℕ) (step : ℕ) (le
       twice true = refl
       twice false = refl
 
-  pub cut_by_limit : lead.limit ≤ end.rung → true ≡ is_cut p most_rows (child node step)
-  cut_by_limit low =
-      ap (λ b. not b || (some_marked marks (numbers_in p t numbered lead) || (is_turned_back p (child node step) || is_hopeless_by_leads p (child node step)))) (sym (le-ltb end.rung lead.limit low)) ∙ cut_told
+  module _ (late marked turned : Bool) (late_is : late ≡ nat_le lead.limit end.rung) (marked_is : marked ≡ some_marked marks numbers) (turned_is : turned ≡ is_turned_back p (child node step)) where
+    cut_by_all : (((late || marked) || turned) || is_hopeless_by_leads p (child node step)) ≡ is_cut p most_rows (child node step)
+    cut_by_all =
+        joined late marked turned (is_hopeless_by_leads p (child node step))
+        ∙ (λ i. (late_is ∙ not_less lead.limit end.rung) i || (marked_is i || (turned_is i || is_hopeless_by_leads p (child node step))))
+        ∙ cut_told
+      where
+        joined : (a b c d : Bool) → (((a || b) || c) || d) ≡ (a || (b || (c || d)))
+        joined true b c d = refl
+        joined false true c d = refl
+        joined false false c d = refl
 
-  module _ (numbers : List ℕ) (marked : Bool) (low : end.rung < lead.limit) (is : numbers ≡ numbers_in p t numbered lead) (tells : marked ≡ some_marked marks numbers) where
-    cut_by_rest : (marked || (is_turned_back p (child node step) || is_hopeless_by_leads p (child node step))) ≡ is_cut p most_rows (child node step)
-    cut_by_rest =
-        ap₂ (λ a b. not a || (b || (is_turned_back p (child node step) || is_hopeless_by_leads p (child node step)))) (sym (lt-ltb end.rung lead.limit low)) (tells ∙ ap (some_marked marks) is) ∙ cut_told
+        not_less : (a b : ℕ) → nat_le a b ≡ not (nat_lt b a)
+        not_less a b = grind (arith, nat_tests)
 
-    pub cut_by_marks : marked ≡ true → true ≡ is_cut p most_rows (child node step)
-    cut_by_marks holds = ap (λ b. b || (is_turned_back p (child node step) || is_hopeless_by_leads p (child node step))) (sym holds) ∙ cut_by_rest
+    pub cut_early : ((late || marked) || turned) ≡ true → ((late || marked) || turned) ≡ is_cut p most_rows (child node step)
+    cut_early holds = holds ∙ ap (λ b. b || is_hopeless_by_leads p (child node step)) (sym holds) ∙ cut_by_all
 
-    pub cut_by_query : (unasked : Bool) → marked ≡ false → unasked ≡ (is_turned_back p (child node step) || is_hopeless_by_leads p (child node step)) → unasked ≡ is_cut p most_rows (child node step)
-    cut_by_query unasked none query = query ∙ ap (λ b. b || (is_turned_back p (child node step) || is_hopeless_by_leads p (child node step))) (sym none) ∙ cut_by_rest
+    pub cut_by_leads : (hopeless : Bool) → ((late || marked) || turned) ≡ false → hopeless ≡ is_hopeless_by_leads p (child node step) → hopeless ≡ is_cut p most_rows (child node step)
+    cut_by_leads hopeless none by_leads = by_leads ∙ ap (λ b. b || is_hopeless_by_leads p (child node step)) (sym none) ∙ cut_by_all
 
 -- the first reason, told by the test of each
 abbrev first_of : Bool → Bool → Bool → Bool → Bool → Bool → Bool → Bool → Option Reason

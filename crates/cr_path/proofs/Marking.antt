@@ -1,22 +1,23 @@
 -- The marks of a node's rows, a lead more and a lead less.
-use Rattle.std.proofs.Common.{◌≡◌, ℕ, ◌+◌, ◌-◌, ◌*◌, ◌<◌, ◌≤◌, Bool, true, false, cond, not, ◌&&◌, nat_eq, List, [], ◌∷◌, ◌++◌, length, get_or, map, take, drop, All, sym, ap, ap₂, ◌∙◌, subst, inl, inr, arith, length-append}
+use Rattle.std.proofs.Common.{◌≡◌, ℕ, ◌+◌, ◌<◌, ◌≤◌, Bool, true, false, cond, not, ◌&&◌, nat_eq, List, [], ◌∷◌, length, get_or, take, drop, All, refl, sym, ap, ap₂, ◌∙◌, inl, inr, arith, length-append}
 use Rattle.std.specs.List.{list_any}
 use Rattle.std.proofs.lemmas.Bool.{and_parts, cases_eq, false≢true, false_from_ne_true, not-true}
-use Rattle.std.proofs.lemmas.Bool.Decides.{eqb_tells}
+use Rattle.std.proofs.lemmas.Bool.Decides.{eqb_tells, same_from_decides, Decides-like}
 use Rattle.std.proofs.lemmas.List.{take_all, take-append-le}
 use Rattle.std.proofs.lemmas.List.Elements.{All-take, All-drop}
 use Rattle.cr_model.specs.Problems.{ProblemParts}
-use Rattle.cr_model.specs.Callings.{rows_of, head_of}
+use Rattle.cr_model.specs.Callings.{rows_of, head_of, changes_of_all}
 use Rattle.cr_model.specs.Decided.{rows_differ}
 use Rattle.cr_model.specs.Levels.{is_listed}
 use Rattle.cr_model.specs.Sizes.{child}
+use Rattle.cr_model.proofs.Bells.{rows_are_rows, last_is_row}
+use Rattle.cr_model.proofs.Deciding.{rows_differ_decided}
 use Rattle.cr_path.specs.declared.table.LeadRecord.{LeadRecord}
-use Rattle.cr_path.specs.declared.ends.LeadEnd.{LeadEnd}
-use Rattle.cr_path.specs.Ends.{IsEnd}
-use Rattle.cr_path.specs.Marks.{some_marked, numbers_differ, AreSet, AreMarked}
-use Rattle.cr_path.specs.Numbers.{NumberParts, lead_from, IsRecord, IsNumbered}
-use Rattle.cr_path.proofs.Children.{child_rows, leads_differ}
-use Rattle.cr_path.proofs.Listed.{at, differ_joined, some_are, number_listed, they_differ, more_marked, fewer_marked}
+use Rattle.cr_path.specs.Marks.{some_marked, AreSet, AreMarked, IsLead}
+use Rattle.cr_path.specs.Numbers.{NumberParts, lead_from, numbers_of, IsRecord, IsNumbered}
+use Rattle.cr_path.proofs.Children.{row_laws, child_rows, leads_differ}
+use Rattle.cr_path.proofs.Listed.{at, differ_joined, some_are, more_marked, fewer_marked}
+use Rattle.cr_path.proofs.Products.{products_differ, factors_differ}
 
 child_counted : (node : List ℕ) (step : ℕ) → length (child node step) ≡ length node + 1
 child_counted node step = length-append node (step ∷ [])
@@ -24,38 +25,33 @@ child_counted node step = length-append node (step ∷ [])
 child_before : (node : List ℕ) (step n : ℕ) → n ≤ length node → take n (child node step) ≡ take n node
 child_before node step n within = take-append-le n node (step ∷ []) within
 
-module _ (p : ProblemParts) (t : NumberParts) (numbered : IsNumbered p t) where
-  -- what is found of a step from the end of a calling
-  pub lead_known : (calling : List ℕ) (end : LeadEnd) (step : ℕ) (lead : LeadRecord) → IsEnd p t calling end → step < length p.leads
-      → lead ≡ get_or t.records (end.head * t.steps + step) lead → IsRecord p t (head_of p calling) step lead
-  lead_known calling end step lead at_end inside is =
-      subst (IsRecord p t (head_of p calling) step) (sym is)
-      (subst (λ head. IsRecord p t head step (get_or t.records (end.head * t.steps + step) lead)) at_end.is
-      (numbered.each end.head step lead at_end.numbered (subst (λ n. step < n) (sym numbered.counted) inside)))
+-- the numbers of a lead
+pub within_in : (p : ProblemParts) (t : NumberParts) → IsNumbered p t → (lead : LeadRecord) → All (λ number. number < length t.rows) (numbers_of t lead)
+within_in p t numbered lead = All-take (λ (number : ℕ). number < length t.rows) lead.count (drop lead.start t.numbers) (All-drop (λ (number : ℕ). number < length t.rows) lead.start t.numbers numbered.within)
 
-  -- the numbers of its rows
-  abbrev pub numbers_in : LeadRecord → List ℕ
-  numbers_in lead = take (lead.end - lead.start) (drop lead.start t.numbers)
+module _ (p : ProblemParts) (node : List ℕ) (step : ℕ) where
+  child_differs : rows_differ (rows_of p (child node step)) ≡ (rows_differ (rows_of p node) && (rows_differ (lead_from p (head_of p node) step) && not (list_any (is_listed (rows_of p node)) (lead_from p (head_of p node) step))))
+  child_differs = ap rows_differ (child_rows p node step) ∙ differ_joined (rows_of p node) (lead_from p (head_of p node) step)
 
-  pub within_in : (lead : LeadRecord) → All (λ number. number < length t.rows) (numbers_in lead)
-  within_in lead = All-take (λ (number : ℕ). number < length t.rows) (lead.end - lead.start) (drop lead.start t.numbers) (All-drop (λ (number : ℕ). number < length t.rows) lead.start t.numbers numbered.within)
+  node_differs : rows_differ (rows_of p (child node step)) ≡ true → rows_differ (rows_of p node) ≡ true
+  node_differs differ = (and_parts (rows_differ (rows_of p node)) _ (sym child_differs ∙ differ)).0
 
-  module _ (node : List ℕ) (step : ℕ) (lead : LeadRecord) (known : IsRecord p t (head_of p node) step lead) where
-    pub child_is : rows_of p (child node step) ≡ rows_of p node ++ map (at t.rows) (numbers_in lead)
-    child_is = child_rows p node step ∙ ap (λ rows. rows_of p node ++ rows) (sym known.are)
+  none_again : rows_differ (rows_of p (child node step)) ≡ true → list_any (is_listed (rows_of p node)) (lead_from p (head_of p node) step) ≡ false
+  none_again differ =
+      let lead_rows = lead_from p (head_of p node) step in
+      let (one, rest) = and_parts (rows_differ (rows_of p node)) (rows_differ lead_rows && not (list_any (is_listed (rows_of p node)) lead_rows)) (sym child_differs ∙ differ) in
+      let (two, three) = and_parts (rows_differ lead_rows) (not (list_any (is_listed (rows_of p node)) lead_rows)) rest in
+      not-true (list_any (is_listed (rows_of p node)) lead_rows) three
 
-    pub child_differs : rows_differ (rows_of p (child node step)) ≡ (rows_differ (rows_of p node) && (rows_differ (map (at t.rows) (numbers_in lead)) && not (list_any (is_listed (rows_of p node)) (map (at t.rows) (numbers_in lead)))))
-    child_differs = ap rows_differ child_is ∙ differ_joined (rows_of p node) (map (at t.rows) (numbers_in lead))
-
-    node_differs : rows_differ (rows_of p (child node step)) ≡ true → rows_differ (rows_of p node) ≡ true
-    node_differs differ = (and_parts (rows_differ (rows_of p node)) _ (sym child_differs ∙ differ)).0
-
-    none_again : rows_differ (rows_of p (child node step)) ≡ true → list_any (is_listed (rows_of p node)) (map (at t.rows) (numbers_in lead)) ≡ false
-    none_again differ =
-        let lead_rows = map (at t.rows) (numbers_in lead) in
-        let (one, rest) = and_parts (rows_differ (rows_of p node)) (rows_differ lead_rows && not (list_any (is_listed (rows_of p node)) lead_rows)) (sym child_differs ∙ differ) in
-        let (two, three) = and_parts (rows_differ lead_rows) (not (list_any (is_listed (rows_of p node)) lead_rows)) rest in
-        not-true (list_any (is_listed (rows_of p node)) lead_rows) three
+  -- the rows of a lead differ where those from rounds do
+  pub lead_differs : rows_differ (lead_from p (head_of p node) step) ≡ rows_differ (rows_of p (step ∷ []))
+  lead_differs =
+      same_from_decides (rows_differ (lead_from p (head_of p node) step)) (rows_differ (rows_of p (step ∷ [])))
+      (rows_differ_decided (lead_from p (head_of p node) step))
+      (Decides-like (rows_differ (rows_of p (step ∷ [])))
+      (products_differ p.stage (head_of p node) (rows_of p (step ∷ [])) (last_is_row row_laws p.stage (changes_of_all p node)) (rows_are_rows row_laws p.stage (changes_of_all p (step ∷ []))))
+      (factors_differ (head_of p node) (rows_of p (step ∷ [])))
+      (rows_differ_decided (rows_of p (step ∷ []))))
 
 -- where the rows of a node differ, all of its leads are kept
 pub all_fresh : (p : ProblemParts) (t : NumberParts) (node : List ℕ) (marks : List Bool) (fresh : ℕ) → AreMarked p t node marks fresh → rows_differ (rows_of p node) ≡ true → fresh ≡ length node
@@ -81,14 +77,14 @@ repeat_told p t node marks fresh leads are is = elim (eqb_tells fresh leads) [
       ap not (e.0 ∙ sym again)
 ]
 
-module _ (p : ProblemParts) (t : NumberParts) (numbered : IsNumbered p t) (node : List ℕ) (step : ℕ) (lead : LeadRecord) (known : IsRecord p t (head_of p node) step lead) (numbers : List ℕ) (is : numbers ≡ numbers_in p t numbered lead) where
+module _ (p : ProblemParts) (t : NumberParts) (node : List ℕ) (step : ℕ) (lead : LeadRecord) (known : IsRecord p t (head_of p node) step lead) (numbers : List ℕ) (is : numbers ≡ numbers_of t lead) where
   -- the marks of a child whose rows differ
   module _ (marks next : List Bool) (fresh : ℕ) (are : AreMarked p t node marks fresh) (long : length next ≡ length marks) where
     pub marked_more : rows_differ (rows_of p (child node step)) ≡ true → AreSet true numbers marks next → AreMarked p t (child node step) next (fresh + 1)
     marked_more differ set =
         let seen = rows_of p node in
-        let more = map (at t.rows) (numbers_in p t numbered lead) in
-        let all = all_fresh p t node marks fresh are (node_differs p t numbered node step lead known differ) in
+        let more = lead_from p (head_of p node) step in
+        let all = all_fresh p t node marks fresh are (node_differs p node step differ) in
         let counted = child_counted node step in
         let whole : take (fresh + 1) (child node step) ≡ child node step = take_all (fresh + 1) (child node step) (omega (arith, counted, all)) in
         record {
@@ -97,10 +93,10 @@ module _ (p : ProblemParts) (t : NumberParts) (numbered : IsNumbered p t) (node 
           of = λ number inside.
               set number (omega (arith, are.counted, inside))
               ∙ ap (λ ns. cond (list_any (nat_eq number) ns) true (get_or marks number false)) is
-              ∙ ap (λ b. cond b true (get_or marks number false)) (number_listed t.rows numbered.differ number (numbers_in p t numbered lead) inside (within_in p t numbered lead))
+              ∙ ap (λ b. cond b true (get_or marks number false)) (known.are number inside)
               ∙ ap (cond (is_listed more (at t.rows number)) true) (marks_of p t node marks fresh are all number inside)
               ∙ more_marked seen more (at t.rows number)
-              ∙ ap (λ rows. is_listed rows (at t.rows number)) (sym (child_is p t numbered node step lead known))
+              ∙ ap (λ rows. is_listed rows (at t.rows number)) (sym (child_rows p node step))
               ∙ ap (λ word. is_listed (rows_of p word) (at t.rows number)) (sym whole);
           differ = ap (λ word. rows_differ (rows_of p word)) whole ∙ differ;
           again = λ low. absurd (omega (arith, low, counted, all));
@@ -111,7 +107,7 @@ module _ (p : ProblemParts) (t : NumberParts) (numbered : IsNumbered p t) (node 
     pub marked_less : fresh ≡ length (child node step) → AreSet false numbers marks next → AreMarked p t node next (length node)
     marked_less all set =
         let seen = rows_of p node in
-        let more = map (at t.rows) (numbers_in p t numbered lead) in
+        let more = lead_from p (head_of p node) step in
         let whole : take fresh (child node step) ≡ child node step = take_all fresh (child node step) (omega (arith, all)) in
         let differ : rows_differ (rows_of p (child node step)) ≡ true = ap (λ word. rows_differ (rows_of p word)) (sym whole) ∙ are.differ in
         let front : take (length node) node ≡ node = take_all (length node) node (omega arith) in
@@ -121,12 +117,12 @@ module _ (p : ProblemParts) (t : NumberParts) (numbered : IsNumbered p t) (node 
           of = λ number inside.
               set number (omega (arith, are.counted, inside))
               ∙ ap (λ ns. cond (list_any (nat_eq number) ns) false (get_or marks number false)) is
-              ∙ ap (λ b. cond b false (get_or marks number false)) (number_listed t.rows numbered.differ number (numbers_in p t numbered lead) inside (within_in p t numbered lead))
+              ∙ ap (λ b. cond b false (get_or marks number false)) (known.are number inside)
               ∙ ap (cond (is_listed more (at t.rows number)) false) (marks_of p t (child node step) marks fresh are all number inside)
-              ∙ ap (λ rows. cond (is_listed more (at t.rows number)) false (is_listed rows (at t.rows number))) (child_is p t numbered node step lead known)
-              ∙ fewer_marked seen more (at t.rows number) (none_again p t numbered node step lead known differ)
+              ∙ ap (λ rows. cond (is_listed more (at t.rows number)) false (is_listed rows (at t.rows number))) (child_rows p node step)
+              ∙ fewer_marked seen more (at t.rows number) (none_again p node step differ)
               ∙ ap (λ word. is_listed (rows_of p word) (at t.rows number)) (sym front);
-          differ = ap (λ word. rows_differ (rows_of p word)) front ∙ node_differs p t numbered node step lead known differ;
+          differ = ap (λ word. rows_differ (rows_of p word)) front ∙ node_differs p node step differ;
           again = λ low. absurd (omega (arith, low));
         }
 
@@ -163,24 +159,26 @@ module _ (p : ProblemParts) (t : NumberParts) (node : List ℕ) (step : ℕ) (ma
         again = λ low. ap (λ word. rows_differ (rows_of p word)) (sym (child_before node step (fresh + 1) (omega (arith, low)))) ∙ are.again (omega (arith, low, counted));
       }
 
--- a lead more brings no row again, told by its numbers and the marks
-module _ (p : ProblemParts) (t : NumberParts) (numbered : IsNumbered p t) (node : List ℕ) (step : ℕ) (lead : LeadRecord) (known : IsRecord p t (head_of p node) step lead) (marks : List Bool) (fresh : ℕ) (are : AreMarked p t node marks fresh) (differ : rows_differ (rows_of p node) ≡ true)
-    (numbers : List ℕ) (is : numbers ≡ numbers_in p t numbered lead) where
-  new_told : (numbers_differ numbers && not (some_marked marks numbers)) ≡ rows_differ (rows_of p (child node step))
-  new_told =
-      let all = all_fresh p t node marks fresh are differ in
-      let rows = map (at t.rows) (numbers_in p t numbered lead) in
-      ap₂ (λ a b. a && not b)
-      (ap numbers_differ is ∙ they_differ t.rows numbered.differ (numbers_in p t numbered lead) (within_in p t numbered lead))
-      (ap (some_marked marks) is ∙ some_are t.rows (rows_of p node) marks (numbers_in p t numbered lead) (marks_of p t node marks fresh are all) (within_in p t numbered lead))
-      ∙ ap (λ b. b && (rows_differ rows && not (list_any (is_listed (rows_of p node)) rows))) (sym differ)
-      ∙ sym (child_differs p t numbered node step lead known)
+-- a lead more brings no row again, told by its record, its numbers and the marks
+module _ (p : ProblemParts) (t : NumberParts) (numbered : IsNumbered p t) (node : List ℕ) (marks : List Bool) (fresh : ℕ) (are : AreMarked p t node marks fresh) (differ : rows_differ (rows_of p node) ≡ true)
+    (step : ℕ) (lead : LeadRecord) (found : IsLead p t node step lead) where
+  -- a row of the lead stands among the node's where one of its numbers is marked
+  pub marked_told : (numbers : List ℕ) → numbers ≡ numbers_of t lead → some_marked marks numbers ≡ list_any (is_listed (rows_of p node)) (lead_from p (head_of p node) step)
+  marked_told numbers is =
+      ap (some_marked marks) is
+      ∙ some_are t.rows (rows_of p node) marks (numbers_of t lead) (marks_of p t node marks fresh are (all_fresh p t node marks fresh are differ)) (within_in p t numbered lead)
+      ∙ sym found.told
 
-  pub new_by_marks : (different marked : Bool) → different ≡ numbers_differ numbers → different ≡ true → marked ≡ some_marked marks numbers → not marked ≡ rows_differ (rows_of p (child node step))
-  new_by_marks different marked one holds two = ap₂ (λ a b. a && not b) (sym holds ∙ one) two ∙ new_told
-
-  pub old_by_numbers : (different : Bool) → different ≡ numbers_differ numbers → different ≡ false → false ≡ rows_differ (rows_of p (child node step))
-  old_by_numbers different one twice = ap (λ a. a && not (some_marked marks numbers)) (sym twice ∙ one) ∙ new_told
+  pub new_told : (numbers : List ℕ) → numbers ≡ numbers_of t lead → (not lead.twice && not (some_marked marks numbers)) ≡ rows_differ (rows_of p (child node step))
+  new_told numbers is =
+      ap₂ (λ a b. not a && not b) found.known.twice (marked_told numbers is)
+      ∙ ap (λ b. b && not (list_any (is_listed (rows_of p node)) (lead_from p (head_of p node) step))) (both_nots (rows_differ (rows_of p (step ∷ []))) ∙ sym (lead_differs p node step))
+      ∙ ap (λ b. b && (rows_differ (lead_from p (head_of p node) step) && not (list_any (is_listed (rows_of p node)) (lead_from p (head_of p node) step)))) (sym differ)
+      ∙ sym (child_differs p node step)
+    where
+      both_nots : (b : Bool) → not (not b) ≡ b
+      both_nots true = refl
+      both_nots false = refl
 
 -- nor does a node above one that brings none
 pub old_below : (p : ProblemParts) (node : List ℕ) (step : ℕ) → rows_differ (rows_of p node) ≡ false → false ≡ rows_differ (rows_of p (child node step))

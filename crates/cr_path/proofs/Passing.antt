@@ -14,11 +14,11 @@ use Rattle.cr_model.proofs.Below.{words}
 use Rattle.cr_model.proofs.Ringing.{rows_from-append, last_of-append, changes-append, rung_from, product_of_rounds}
 use Rattle.cr_path.specs.declared.table.LeadRecord.{LeadRecord}
 use Rattle.cr_path.specs.Marks.{some_marked, AreOf}
-use Rattle.cr_path.specs.Numbers.{NumberParts, lead_from, head_after, IsRecord, IsNumbered}
+use Rattle.cr_path.specs.Numbers.{NumberParts, lead_from, head_after, numbers_of, IsRecord, IsTold, IsNumbered}
 use Rattle.cr_path.specs.Parts.{IsHead, IsPassed, Passes}
 use Rattle.cr_path.proofs.Children.{row_laws}
 use Rattle.cr_path.proofs.Listed.{some_are}
-use Rattle.cr_path.proofs.Marking.{numbers_in, within_in}
+use Rattle.cr_path.proofs.Marking.{within_in}
 
 -- equal words, numbered from any number, and joined
 same_words : (a b number : ℕ) (word : List ℕ) → words a number word ≡ words b number word
@@ -108,12 +108,17 @@ module _ (p : ProblemParts) (t : NumberParts) (numbered : IsNumbered p t) where
     long = ap length (known.leads_to ∙ head_rung p (get_or t.heads head []) step is.long) ∙ last_long (get_or t.heads head []) (changes_of p step) ∙ is.long;
   }
 
-  module _ (rows : List (List ℕ)) (marks : List Bool) (are : AreOf t rows marks) (head step : ℕ) (lead : LeadRecord) (is : IsHead p t head) (known : IsRecord p t (get_or t.heads head []) step lead) (numbers : List ℕ) (its : numbers ≡ numbers_in p t numbered lead) where
+  module _ (rows : List (List ℕ)) (marks : List Bool) (told : IsTold p t rows) (are : AreOf t rows marks) (head step : ℕ) (lead : LeadRecord) (is : IsHead p t head) (inside : step < length p.leads)
+      (found : lead ≡ get_or t.records (head * t.steps + step) lead) (numbers : List ℕ) (its : numbers ≡ numbers_of t lead) where
     any_told : some_marked marks numbers ≡ list_any (is_listed rows) (rows_from (get_or t.heads head []) (changes_of p step))
     any_told =
-        ap (some_marked marks) its
-        ∙ some_are t.rows rows marks (numbers_in p t numbered lead) are (within_in p t numbered lead)
-        ∙ ap (list_any (is_listed rows)) (known.are ∙ sym (lead_rung p (get_or t.heads head []) step is.long))
+        ap (some_marked marks) (its ∙ ap (numbers_of t) found)
+        ∙ some_are t.rows rows marks (numbers_of t (get_or t.records (head * t.steps + step) lead)) are (within_in p t numbered (get_or t.records (head * t.steps + step) lead))
+        ∙ sym (told head step lead is.numbered (subst (λ n. step < n) (sym numbered.counted) inside))
+        ∙ ap (list_any (is_listed rows)) (sym (lead_rung p (get_or t.heads head []) step is.long))
+
+    known : IsRecord p t (get_or t.heads head []) step lead
+    known = found_at head step lead is.numbered inside found
 
     -- a lead of which no row is marked, and one of which a row is
     pub lead_passed : (marked : Bool) → marked ≡ some_marked marks numbers → marked ≡ false → IsPassed p t rows head (changes_of p step) lead.next

@@ -1,4 +1,4 @@
--- Records of leads, and how numbers of a problem grow by one.
+-- Leads that are rung, and how they grow by one.
 use Rattle.std.proofs.Common.{◌≡◌, ℕ, ◌+◌, ◌-◌, ◌*◌, ◌<◌, ◌≤◌, Bool, not, ◌&&◌, ◌||◌, nat_lt, nat_eq, List, [], ◌∷◌, ◌++◌, length, get_or, map, take, drop, inl, inr, refl, sym, ap, ap₂, ◌∙◌, subst, arith, length-append}
 use Rattle.std.specs.Prelude.{All}
 use Rattle.std.specs.Cmp.Lexicographic.{pointwise}
@@ -8,15 +8,18 @@ use Rattle.std.proofs.lemmas.Bool.Decides.{same_from_decides, Decides-like, Deci
 use Rattle.std.proofs.lemmas.Slice.Eq.{bytes_eq-Decides}
 use Rattle.std.proofs.lemmas.Nat.{same_from_place, row_fits}
 use Rattle.std.proofs.lemmas.List.{take-map, drop-map, length-map, get_or_append_left, get_or_push, drop-append-le, take-append-le, length-drop, drop_at, take_all}
-use Rattle.std.proofs.lemmas.List.Elements.{All-head, All-tail, All-take, All-drop, All-append, All-same}
+use Rattle.std.proofs.lemmas.List.Elements.{All-head, All-tail, All-take, All-drop, All-append, All-push, All-weaker, All-same}
 use Rattle.cr_row.specs.Rows.{rounds}
 use Rattle.cr_model.specs.Problems.{ProblemParts}
+use Rattle.cr_model.specs.Callings.{lead_length, rows_of}
 use Rattle.cr_model.specs.Dead.{parts_of, has_rounds}
+use Rattle.cr_model.specs.Decided.{rows_differ}
 use Rattle.cr_rowset.specs.Stacks.{AllDiffer}
-use Rattle.cr_path.specs.Numbers.{NumberParts, lead_from, head_after, brings_home, dies_after, IsRecord, IsNumbered}
+use Rattle.cr_path.specs.Numbers.{lead_from, head_after, brings_home, dies_after}
+use Rattle.cr_path.specs.Rung.{RungParts, IsHeld, IsRungLead, IsRung}
 use Rattle.cr_path.specs.Numbering.{IsKept, HasNumber, AreNumbered, IsBegun}
 use Rattle.cr_path.specs.Leads.{has_first}
-use Rattle.cr_path.specs.declared.table.LeadRecord.{LeadRecord}
+use Rattle.cr_path.specs.declared.numbering.RungLead.{RungLead}
 use Rattle.cr_path.proofs.Places.{record_within}
 use Rattle.cr_path.proofs.Grown.{kept_by, heads_more, same_rows, all_kept}
 
@@ -54,7 +57,7 @@ module _ (p : ProblemParts) (rows : List (List ℕ)) (some : 0 < length rows) (f
       ap₂ (λ (a b : Bool). a || (b && nat_lt 1 (parts_of p))) front back
 
 -- whether rows that were numbered bring rounds too early
-pub home_told : (p : ProblemParts) (old new : NumberParts) (done start : ℕ) (rung : List (List ℕ)) → IsBegun p old done
+pub home_told : (p : ProblemParts) (old new : RungParts) (done start : ℕ) (rung : List (List ℕ)) → IsBegun p old done
     → AreNumbered old.rows old.numbers rung new.rows new.numbers → AllDiffer new.rows → start ≡ length old.numbers
     → has_first p (drop start new.numbers) ≡ brings_home p rung
 home_told p old new done start rung begun are differ start_is =
@@ -64,12 +67,12 @@ home_told p old new done start rung begun are differ start_is =
     ∙ ap (brings_home p) are.are
 
 -- a record stays one while heads, rows and numbers are added
-pub record_kept : (p : ProblemParts) (old new : NumberParts) (more head : List ℕ) (step : ℕ) (lead : LeadRecord) → IsKept old.heads new.heads
+pub record_kept : (p : ProblemParts) (old new : RungParts) (more head : List ℕ) (step : ℕ) (lead : RungLead) → IsKept old.heads new.heads
     → IsKept old.rows new.rows → new.numbers ≡ old.numbers ++ more → All (λ number. number < length old.rows) old.numbers
-    → IsRecord p old head step lead → IsRecord p new head step lead
+    → IsRungLead p old head step lead → IsRungLead p new head step lead
 record_kept p old new more head step lead heads rows numbers all is =
-    let from : lead.start ≤ length old.numbers = omega (arith, is.start, is.end) in
-    let to : lead.end - lead.start ≤ length (drop lead.start old.numbers) = omega (arith, is.start, is.end, length-drop lead.start old.numbers) in
+    let from : lead.start ≤ length old.numbers = omega (arith, is.held.0, is.held.1) in
+    let to : lead.end - lead.start ≤ length (drop lead.start old.numbers) = omega (arith, is.held.0, is.held.1, length-drop lead.start old.numbers) in
     let mine : take (lead.end - lead.start) (drop lead.start new.numbers) ≡ take (lead.end - lead.start) (drop lead.start old.numbers) =
     ap (λ (ns : List ℕ). take (lead.end - lead.start) (drop lead.start ns)) numbers
     ∙ ap (take (lead.end - lead.start)) (drop-append-le lead.start old.numbers more from)
@@ -78,8 +81,9 @@ record_kept p old new more head step lead heads rows numbers all is =
       next = omega (arith, is.next, heads.long);
       leads_to = heads.same lead.next is.next ∙ is.leads_to;
       limit = is.limit;
-      start = is.start;
-      end = omega (arith, is.end, ap length numbers, length-append old.numbers more);
+      long = is.long;
+      twice = is.twice;
+      held = (is.held.0, omega (arith, is.held.1, ap length numbers, length-append old.numbers more));
       are = ap (map (λ number. get_or new.rows number [])) mine
           ∙ same_rows old.rows new.rows (take (lead.end - lead.start) (drop lead.start old.numbers)) rows
           (All-take (λ n. n < length old.rows) (lead.end - lead.start) (drop lead.start old.numbers)
@@ -88,7 +92,7 @@ record_kept p old new more head step lead heads rows numbers all is =
     }
 
 -- a lead that is rung from a head, its rows and the head after it with their numbers
-pub record IsRungLead (p : ProblemParts) (old new : NumberParts) (head : List ℕ) (step : ℕ) (lead : LeadRecord) : Type 0 where
+pub record RingsLead (p : ProblemParts) (old new : RungParts) (head : List ℕ) (step : ℕ) (lead : RungLead) : Type 0 where
   pub steps : new.steps ≡ old.steps
   pub rows : AreNumbered old.rows old.numbers (lead_from p head step) new.rows new.numbers
   pub differ : AllDiffer new.rows
@@ -97,11 +101,13 @@ pub record IsRungLead (p : ProblemParts) (old new : NumberParts) (head : List �
   pub start : lead.start ≡ length old.numbers
   pub end : lead.end ≡ length new.numbers
   pub limit : (rung : ℕ) → nat_lt rung lead.limit ≡ not (dies_after p head step rung)
+  pub counted : lead.length ≡ lead_length p step
+  pub twice : lead.twice ≡ not (rows_differ (rows_of p (step ∷ [])))
   pub records : new.records ≡ old.records ++ lead ∷ []
 
 -- it is a record
-pub rung_record : (p : ProblemParts) (old new : NumberParts) (head : List ℕ) (step : ℕ) (lead : LeadRecord) → IsRungLead p old new head step lead
-    → IsRecord p new head step lead
+pub rung_record : (p : ProblemParts) (old new : RungParts) (head : List ℕ) (step : ℕ) (lead : RungLead) → RingsLead p old new head step lead
+    → IsRungLead p new head step lead
 rung_record p old new head step lead is =
     let long : length new.numbers ≡ length old.numbers + length is.rows.more = ap length is.rows.joined ∙ length-append old.numbers is.rows.more in
     let mine : take (lead.end - lead.start) (drop lead.start new.numbers) ≡ is.rows.more =
@@ -112,8 +118,9 @@ rung_record p old new head step lead is =
       next = is.next.stands.within;
       leads_to = is.next.stands.is;
       limit = is.limit;
-      start = omega (arith, is.start, is.end, long);
-      end = omega (arith, is.end);
+      long = is.counted;
+      twice = is.twice;
+      held = (omega (arith, is.start, is.end, long), omega (arith, is.end));
       are = ap (map (λ number. get_or new.rows number [])) mine ∙ is.rows.are;
     }
 
@@ -127,12 +134,13 @@ row_inside other its place step heads steps place_in step_in earlier = elim (cas
 ]
 
 -- with it the numbers have one record more
-pub begun_more : (p : ProblemParts) (old new : NumberParts) (place step done : ℕ) (lead : LeadRecord) → IsBegun p old done
+pub begun_more : (p : ProblemParts) (old new : RungParts) (place step done : ℕ) (lead : RungLead) → IsBegun p old done
     → done ≡ place * old.steps + step → place < length old.heads → step < old.steps
-    → IsRungLead p old new (get_or old.heads place []) step lead → IsBegun p new (done + 1)
+    → RingsLead p old new (get_or old.heads place []) step lead → IsBegun p new (done + 1)
 begun_more p old new place step done lead begun at place_in step_in is =
     let heads : IsKept old.heads new.heads = kept_by old.heads new.heads (head_after p (get_or old.heads place []) step) lead.next is.next in
     let rows = is.rows.kept in
+    let more : length old.numbers ≤ length new.numbers = omega (arith, ap length is.rows.joined, length-append old.numbers is.rows.more) in
     record {
       counted = is.steps ∙ begun.counted;
       heads = heads_more p old.heads new.heads (head_after p (get_or old.heads place []) step) lead.next begun.heads is.next is.long;
@@ -142,6 +150,10 @@ begun_more p old new place step done lead begun at place_in step_in is =
       within = All-same (λ n. n < length new.rows) new.numbers (old.numbers ++ is.rows.more) is.rows.joined
           (All-append (λ n. n < length new.rows) old.numbers is.rows.more (all_kept old.rows new.rows old.numbers rows begun.within) is.rows.within);
       recorded = ap length is.records ∙ length-append old.records (lead ∷ []) ∙ ap (λ n. n + 1) begun.recorded;
+      held = All-same (IsHeld (length new.numbers)) new.records (old.records ++ lead ∷ []) is.records
+          (All-push (IsHeld (length new.numbers)) old.records lead
+          (All-weaker (IsHeld (length old.numbers)) (IsHeld (length new.numbers)) (λ other held. (held.0, omega (arith, held.1, more))) old.records begun.held)
+          (omega (arith, is.start, is.end, more), omega (arith, is.end)));
       each = λ other its d head_in its_in low.
           let known : its < old.steps = omega (arith, its_in, is.steps) in
           let index : other * new.steps + its ≡ other * old.steps + its = ap (λ n. other * n + its) is.steps in
@@ -149,31 +161,31 @@ begun_more p old new place step done lead begun at place_in step_in is =
             | inl last ↦
                 let same = same_from_place other its place step old.steps known step_in (last ∙ at) in
                 let here : lead ≡ get_or new.records (other * new.steps + its) d =
-                sym (ap₂ (λ (xs : List LeadRecord) (n : ℕ). get_or xs n d) is.records (index ∙ last)
+                sym (ap₂ (λ (xs : List RungLead) (n : ℕ). get_or xs n d) is.records (index ∙ last)
                 ∙ get_or_push old.records lead d done begun.recorded) in
                 let from : get_or old.heads place [] ≡ get_or new.heads other [] =
                 sym (heads.same place place_in) ∙ ap (λ n. get_or new.heads n []) (sym same.0) in
-                subst (λ (r : LeadRecord). IsRecord p new (get_or new.heads other []) its r) here
-                (subst (λ (h : List ℕ). IsRecord p new h its lead) from
-                (subst (λ (s : ℕ). IsRecord p new (get_or old.heads place []) s lead) (sym same.1)
+                subst (λ (r : RungLead). IsRungLead p new (get_or new.heads other []) its r) here
+                (subst (λ (h : List ℕ). IsRungLead p new h its lead) from
+                (subst (λ (s : ℕ). IsRungLead p new (get_or old.heads place []) s lead) (sym same.1)
                 (rung_record p old new (get_or old.heads place []) step lead is)))
             | inr earlier ↦
                 let below : other * old.steps + its < done = omega (arith, low, index, earlier) in
                 let inside : other < length old.heads = row_inside other its place step (length old.heads) old.steps place_in step_in (omega (arith, below, at)) in
                 let here : get_or old.records (other * old.steps + its) d ≡ get_or new.records (other * new.steps + its) d =
-                sym (ap₂ (λ (xs : List LeadRecord) (n : ℕ). get_or xs n d) is.records index
+                sym (ap₂ (λ (xs : List RungLead) (n : ℕ). get_or xs n d) is.records index
                 ∙ get_or_append_left old.records (lead ∷ []) d (other * old.steps + its) (omega (arith, below, begun.recorded))) in
                 let from : get_or old.heads other [] ≡ get_or new.heads other [] = sym (heads.same other inside) in
-                subst (λ (r : LeadRecord). IsRecord p new (get_or new.heads other []) its r) here
-                (subst (λ (h : List ℕ). IsRecord p new h its (get_or old.records (other * old.steps + its) d)) from
+                subst (λ (r : RungLead). IsRungLead p new (get_or new.heads other []) its r) here
+                (subst (λ (h : List ℕ). IsRungLead p new h its (get_or old.records (other * old.steps + its) d)) from
                 (record_kept p old new is.rows.more (get_or old.heads other []) its (get_or old.records (other * old.steps + its) d) heads rows
                 is.rows.joined begun.within (begun.each other its d inside known below)))
           ];
     }
 
--- with a record of each lead they are numbers of the problem
-pub numbered_whole : (p : ProblemParts) (t : NumberParts) (done : ℕ) → IsBegun p t done → done ≡ length t.heads * t.steps → IsNumbered p t
-numbered_whole p t done begun all = record {
+-- with a record of each lead they are rung from all heads
+pub rung_whole : (p : ProblemParts) (t : RungParts) (done : ℕ) → IsBegun p t done → done ≡ length t.heads * t.steps → IsRung p t
+rung_whole p t done begun all = record {
   counted = begun.counted;
   some_head = begun.heads.some;
   first_head = begun.heads.first;
@@ -181,6 +193,8 @@ numbered_whole p t done begun all = record {
   first_row = begun.first_row;
   differ = begun.differ;
   within = begun.within;
+  recorded = begun.recorded ∙ all;
+  held = begun.held;
   each = λ head step d head_in step_in. begun.each head step d head_in step_in
       (omega (arith, all, record_within head step (length t.heads) t.steps head_in step_in));
 }

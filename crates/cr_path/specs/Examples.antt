@@ -1,48 +1,35 @@
--- The numbers of Plain Bob Minimus, and problems of its lead with another query.
-use Rattle.std.specs.Prelude.{ℕ, [], ◌∷◌, ◌++◌}
-use Rattle.std.specs.List.{range_with_len}
+-- The numbers of Plain Bob Minimus, two leads that have rows in common, and problems of its lead with another query.
+use Rattle.std.specs.Prelude.{ℕ, false, [], ◌∷◌}
 use Rattle.cr_model.specs.Problems.{QueryParts, ProblemParts}
-use Rattle.cr_model.specs.Examples.{minimus}
+use Rattle.cr_model.specs.Examples.{minimus, pair, asks}
 use Rattle.cr_path.specs.declared.table.LeadRecord.{LeadRecord}
 use Rattle.cr_path.specs.Numbers.{NumberParts}
 
--- the record of a lead
+-- the record of a lead of eight changes, true in itself
 abbrev pub lead_at : ℕ → ℕ → ℕ → ℕ → LeadRecord
-lead_at next limit start end = record { next = next; limit = limit; start = start; end = end }
+lead_at next start limit count = record { next = next; start = start; limit = limit; count = count; length = 8; twice = false }
 
--- three heads, and 24 rows: after rounds those of the leads from the first, the second and the third head. The last row of the third lead is rounds again. Home is two leads from the end of the first lead, and one from that of the second
+-- three heads, and three telling rows: rounds, which is the last row of the third lead, and the first rows of the other two. No two leads have a row in common. Home is two leads from the end of the first lead, and one from that of the second
 abbrev pub minimus_numbers : NumberParts
 minimus_numbers = record {
   steps = 1;
   heads = (1 ∷ 2 ∷ 3 ∷ 4 ∷ []) ∷ (1 ∷ 3 ∷ 4 ∷ 2 ∷ []) ∷ (1 ∷ 4 ∷ 2 ∷ 3 ∷ []) ∷ [];
-  rows =
-      (1 ∷ 2 ∷ 3 ∷ 4 ∷ [])
-      ∷ (2 ∷ 1 ∷ 4 ∷ 3 ∷ [])
-      ∷ (2 ∷ 4 ∷ 1 ∷ 3 ∷ [])
-      ∷ (4 ∷ 2 ∷ 3 ∷ 1 ∷ [])
-      ∷ (4 ∷ 3 ∷ 2 ∷ 1 ∷ [])
-      ∷ (3 ∷ 4 ∷ 1 ∷ 2 ∷ [])
-      ∷ (3 ∷ 1 ∷ 4 ∷ 2 ∷ [])
-      ∷ (1 ∷ 3 ∷ 2 ∷ 4 ∷ [])
-      ∷ (1 ∷ 3 ∷ 4 ∷ 2 ∷ [])
-      ∷ (3 ∷ 1 ∷ 2 ∷ 4 ∷ [])
-      ∷ (3 ∷ 2 ∷ 1 ∷ 4 ∷ [])
-      ∷ (2 ∷ 3 ∷ 4 ∷ 1 ∷ [])
-      ∷ (2 ∷ 4 ∷ 3 ∷ 1 ∷ [])
-      ∷ (4 ∷ 2 ∷ 1 ∷ 3 ∷ [])
-      ∷ (4 ∷ 1 ∷ 2 ∷ 3 ∷ [])
-      ∷ (1 ∷ 4 ∷ 3 ∷ 2 ∷ [])
-      ∷ (1 ∷ 4 ∷ 2 ∷ 3 ∷ [])
-      ∷ (4 ∷ 1 ∷ 3 ∷ 2 ∷ [])
-      ∷ (4 ∷ 3 ∷ 1 ∷ 2 ∷ [])
-      ∷ (3 ∷ 4 ∷ 2 ∷ 1 ∷ [])
-      ∷ (3 ∷ 2 ∷ 4 ∷ 1 ∷ [])
-      ∷ (2 ∷ 3 ∷ 1 ∷ 4 ∷ [])
-      ∷ (2 ∷ 1 ∷ 3 ∷ 4 ∷ [])
-      ∷ (1 ∷ 2 ∷ 4 ∷ 3 ∷ [])
-      ∷ [];
-  records = lead_at 1 1 0 8 ∷ lead_at 2 9 8 16 ∷ lead_at 0 17 16 24 ∷ [];
-  numbers = range_with_len 1 23 ++ 0 ∷ [];
+  rows = (1 ∷ 2 ∷ 3 ∷ 4 ∷ []) ∷ (2 ∷ 1 ∷ 4 ∷ 3 ∷ []) ∷ (3 ∷ 1 ∷ 2 ∷ 4 ∷ []) ∷ [];
+  records = lead_at 1 0 1 1 ∷ lead_at 2 1 9 1 ∷ lead_at 0 2 17 1 ∷ [];
+  numbers = 1 ∷ 2 ∷ 0 ∷ [];
+}
+
+-- two leads from rounds, with and without a call. Their first seven rows are the same and their last rows differ. The first lead has one telling row, the first or the last of its own, and the second has the first
+abbrev pub called : ProblemParts
+called = pair (asks 1 24 1)
+
+abbrev pub called_numbers : ℕ → NumberParts
+called_numbers start = record {
+  steps = 2;
+  heads = (1 ∷ 2 ∷ 3 ∷ 4 ∷ []) ∷ [];
+  rows = (1 ∷ 2 ∷ 3 ∷ 4 ∷ []) ∷ (2 ∷ 1 ∷ 4 ∷ 3 ∷ []) ∷ (1 ∷ 3 ∷ 4 ∷ 2 ∷ []) ∷ [];
+  records = lead_at 0 start 1 1 ∷ lead_at 0 0 1 1 ∷ [];
+  numbers = 1 ∷ 2 ∷ [];
 }
 
 -- Plain Bob Minimus with another query

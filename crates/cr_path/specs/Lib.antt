@@ -1,7 +1,10 @@
 pub mod Numbers
 pub mod Ends
 pub mod Marks
+pub mod Rung
 pub mod Numbering
+pub mod Covers
+pub mod Telling
 pub mod Facts
 pub mod Leads
 pub mod Begun
@@ -9,3 +12,5 @@ pub mod Examples
 pub mod Walks
 pub mod Living
 pub mod Parts
+pub mod Sets
+pub mod Counted

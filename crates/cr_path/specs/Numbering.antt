@@ -4,8 +4,8 @@ use Rattle.cr_row.specs.Rows.{rounds}
 use Rattle.cr_model.specs.Problems.{ProblemParts}
 use Rattle.cr_rowset.specs.Stacks.{AllDiffer}
 use Rattle.cr_rowset.specs.Pushing.{StandsAt}
-use Rattle.cr_path.specs.Numbers.{NumberParts, IsRecord}
-use Rattle.cr_path.specs.declared.table.LeadRecord.{LeadRecord}
+use Rattle.cr_path.specs.Rung.{RungParts, IsHeld, IsRungLead}
+use Rattle.cr_path.specs.declared.numbering.RungLead.{RungLead}
 
 -- rows that stay at their places, where others may come after them
 pub record IsKept (old new : List (List ℕ)) : Type 0 where
@@ -32,7 +32,7 @@ pub record AreHeads (p : ProblemParts) (heads : List (List ℕ)) : Type 0 where
   pub staged : All (λ head. length head ≡ p.stage) heads
 
 -- numbers of a problem on the way: the records of so many leads, head by head
-pub record IsBegun (p : ProblemParts) (t : NumberParts) (done : ℕ) : Type 0 where
+pub record IsBegun (p : ProblemParts) (t : RungParts) (done : ℕ) : Type 0 where
   pub counted : t.steps ≡ length p.leads
   pub heads : AreHeads p t.heads
   pub some_row : 0 < length t.rows
@@ -40,5 +40,6 @@ pub record IsBegun (p : ProblemParts) (t : NumberParts) (done : ℕ) : Type 0 wh
   pub differ : AllDiffer t.rows
   pub within : All (λ number. number < length t.rows) t.numbers
   pub recorded : length t.records ≡ done
-  pub each : (head step : ℕ) (d : LeadRecord) → head < length t.heads → step < t.steps → head * t.steps + step < done
-      → IsRecord p t (get_or t.heads head []) step (get_or t.records (head * t.steps + step) d)
+  pub held : All (IsHeld (length t.numbers)) t.records
+  pub each : (head step : ℕ) (d : RungLead) → head < length t.heads → step < t.steps → head * t.steps + step < done
+      → IsRungLead p t (get_or t.heads head []) step (get_or t.records (head * t.steps + step) d)

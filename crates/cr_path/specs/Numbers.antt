@@ -1,17 +1,17 @@
--- Lead heads and rows by numbers, as contracts see them.
-use Rattle.std.specs.Prelude.{◌≡◌, ℕ, ◌+◌, ◌-◌, ◌*◌, ◌<◌, ◌≤◌, Bool, not, ◌&&◌, ◌||◌, nat_lt, List, [], ◌∷◌, length, get_or, map, take, drop, All}
+-- Lead heads and leads by numbers, as contracts see them.
+use Rattle.std.specs.Prelude.{◌≡◌, ℕ, ◌+◌, ◌-◌, ◌*◌, ◌<◌, ◌≤◌, Bool, not, ◌&&◌, ◌||◌, nat_lt, nat_eq, List, [], ◌∷◌, length, get_or, map, take, drop, All}
+use Rattle.std.specs.List.{list_any}
 use Rattle.cr_row.specs.Rows.{rounds, product}
 use Rattle.cr_model.specs.Problems.{ProblemParts}
 use Rattle.cr_model.specs.Callings.{shortest, lead_length, rows_of, head_of}
 use Rattle.cr_model.specs.Queries.{cap, part_cap}
 use Rattle.cr_model.specs.Decided.{rows_differ}
 use Rattle.cr_model.specs.Dead.{parts_of, has_rounds}
-use Rattle.cr_model.specs.Levels.{at_least}
+use Rattle.cr_model.specs.Levels.{at_least, is_listed}
 use Rattle.cr_model.specs.Sizes.{most_rows}
-use Rattle.cr_rowset.specs.Stacks.{AllDiffer}
 use Rattle.cr_path.specs.declared.table.LeadRecord.{LeadRecord}
 
--- the number of steps; the heads and the rows, each at its number; a record of each lead, of the first head's steps first; and the numbers of the rows of all leads
+-- the number of steps; the heads, each at its number; the telling rows, each at its number; a record of each lead, of the first head's steps first; and the numbers of the telling rows of all leads
 pub record NumberParts : Type 0 where
   pub steps : ℕ
   pub heads : List (List ℕ)
@@ -40,30 +40,37 @@ dies_after p head step rung =
     || (brings_home p (lead_from p head step)
     || nat_lt (cap p) (rung + lead_length p step + shortest p * at_least p most_rows (head_after p head step))))
 
--- the rows of a record
-abbrev pub rows_of_record : NumberParts → LeadRecord → List (List ℕ)
-rows_of_record t lead = map (λ number. get_or t.rows number []) (take (lead.end - lead.start) (drop lead.start t.numbers))
+-- the numbers of a lead's telling rows
+abbrev pub numbers_of : NumberParts → LeadRecord → List ℕ
+numbers_of t lead = take lead.count (drop lead.start t.numbers)
 
--- a record of a step that is rung from a head: the head that it leads to, the length below which it may live, and the numbers of its rows
+-- a record of a step that is rung from a head: the head that it leads to, the length below which it may live, its number of changes, whether it has a row twice in itself, and the numbers of the telling rows that stand in it
 pub record IsRecord (p : ProblemParts) (t : NumberParts) (head : List ℕ) (step : ℕ) (lead : LeadRecord) : Type 0 where
   pub next : lead.next < length t.heads
   pub leads_to : get_or t.heads lead.next [] ≡ head_after p head step
   pub limit : (rung : ℕ) → nat_lt rung lead.limit ≡ not (dies_after p head step rung)
-  pub start : lead.start ≤ lead.end
-  pub end : lead.end ≤ length t.numbers
-  pub are : rows_of_record t lead ≡ lead_from p head step
+  pub long : lead.length ≡ lead_length p step
+  pub twice : lead.twice ≡ not (rows_differ (rows_of p (step ∷ [])))
+  pub within : lead.start + lead.count ≤ length t.numbers
+  pub are : (number : ℕ) → number < length t.rows → list_any (nat_eq number) (numbers_of t lead) ≡ is_listed (lead_from p head step) (get_or t.rows number [])
 
--- they are numbers of a problem: rounds is the first head and the first row
+-- of some rows the telling ones are enough: a lead has one of them exactly where one of its telling rows is one of them
+abbrev pub IsTold : ProblemParts → NumberParts → List (List ℕ) → Type 0
+IsTold p t rows = (head step : ℕ) (d : LeadRecord) → head < length t.heads → step < t.steps
+    → list_any (is_listed rows) (lead_from p (get_or t.heads head []) step)
+    ≡ list_any (is_listed rows) (map (λ number. get_or t.rows number []) (numbers_of t (get_or t.records (head * t.steps + step) d)))
+
+-- they are numbers of a problem: rounds is the first head and the first row, and two leads have a row in common exactly where they have a telling row in common
 pub record IsNumbered (p : ProblemParts) (t : NumberParts) : Type 0 where
   pub counted : t.steps ≡ length p.leads
   pub some_head : 0 < length t.heads
   pub first_head : get_or t.heads 0 [] ≡ rounds p.stage
   pub some_row : 0 < length t.rows
   pub first_row : get_or t.rows 0 [] ≡ rounds p.stage
-  pub differ : AllDiffer t.rows
   pub within : All (λ number. number < length t.rows) t.numbers
   pub each : (head step : ℕ) (d : LeadRecord) → head < length t.heads → step < t.steps
       → IsRecord p t (get_or t.heads head []) step (get_or t.records (head * t.steps + step) d)
+  pub told : (head step : ℕ) → head < length t.heads → step < t.steps → IsTold p t (lead_from p (get_or t.heads head []) step)
 
 -- what the fields keep
 pub record AreKept (t : NumberParts) : Type 0 where

@@ -5,6 +5,7 @@ ghost use Rattle.cr_model.specs.Problems.{ProblemParts};
 ghost use Rattle.cr_model.specs.Sizes.{child};
 ghost use Rattle.cr_path.specs.Numbers.{NumberParts};
 ghost use Rattle.cr_path.specs.Ends.{IsEnd, AreEnds};
+ghost use Rattle.cr_path.specs.Sets.{AreUncut};
 
 use cr_row::NoMemory;
 use std::alloc::Global;
@@ -14,10 +15,12 @@ use std::marker::Model;
 const ROOM: usize = 1025;
 
 /// Where a lead ends: the number of the head there, and how many changes have been rung so far.
-#[derive(Clone, Copy)]
+#[derive(Clone, Copy, Drop)]
 pub struct LeadEnd {
     pub head: u32,
     pub rung: u32,
+    /// The set of steps by which the children are not cut, once it is known.
+    pub uncut: u32,
 }
 
 /// The ends of a node's leads, with one before all of them.
@@ -25,35 +28,41 @@ pub struct LeadEnd {
 /// It is seen as their list.
 #[derive(Drop)]
 pub struct Ends {
+    // As many as a node may have: those after the last one are of no node.
     ends: Vec<LeadEnd>,
+    last: usize,
 }
 
 impl Model for Ends {
-    ghost use Rattle.std.specs.Prelude.{ℕ, ◌<◌, ◌≤◌, List, length, vec_capacity};
+    ghost use Rattle.std.specs.Prelude.{◌≡◌, ◌+◌, ◌<◌, List, length, take};
     ghost use Rattle.cr_path.specs.declared.ends.LeadEnd.{LeadEnd};
 
     ghost Value = { List LeadEnd };
 
-    ghost view = { λ e. e.ends.items };
+    ghost view = { λ e. take (e.last + 1) e.ends.items };
 
-    ghost invariant = { λ e. (0 < length e.ends.items) × (1025 ≤ vec_capacity e.ends) };
+    ghost invariant = { λ e. (length e.ends.items ≡ 1025) × (e.last < 1025) };
 }
 
 impl Ends {
     /// The end before all leads, at the first head. All memory that 1,024 leads need is taken here.
     pub fn new(alloc: Global) -> Result<Ends, NoMemory>
-        ensures { IfOk result (λ ends. ends ≡ record { head = 0; rung = 0 } ∷ []) }
+        ensures { IfOk result (λ ends. ends ≡ record { head = 0; rung = 0; uncut = 0 } ∷ []) }
     {
-        let mut ends = Vec::with_capacity(alloc, ROOM)?;
-        ends.push(LeadEnd { head: 0, rung: 0 })?;
-        Ok(Ends { ends })
+        let start = LeadEnd {
+            head: 0,
+            rung: 0,
+            uncut: 0,
+        };
+        let ends = Vec::from_elem(alloc, start, ROOM)?;
+        Ok(Ends { ends, last: 0 })
     }
 
     /// The last end.
     pub fn last(&self) -> LeadEnd
         ensures { (p : ProblemParts) (t : NumberParts) (node : List ℕ) → AreEnds p t node self.now → IsEnd p t node result }
     {
-        self.ends[self.ends.len() - 1]
+        self.ends[self.last]
     }
 
     /// Appends an end.
@@ -62,10 +71,8 @@ impl Ends {
         ensures { (p : ProblemParts) (t : NumberParts) (node : List ℕ) (step : ℕ) → AreEnds p t node self.old
             → IsEnd p t (child node step) end → AreEnds p t (child node step) self.new }
     {
-        match self.ends.push(end) {
-            Ok(()) => (),
-            Err(_) => unreachable!(),
-        }
+        self.last += 1;
+        self.ends[self.last] = end;
     }
 
     /// Removes the last end.
@@ -74,6 +81,15 @@ impl Ends {
         ensures { (p : ProblemParts) (t : NumberParts) (node : List ℕ) → 0 < length node → AreEnds p t node self.old
             → AreEnds p t (take (length node - 1) node) self.new }
     {
-        self.ends.truncate(self.ends.len() - 1);
+        self.last -= 1;
+    }
+
+    /// Keeps by which steps the children of the last end are not cut.
+    pub fn keep_uncut(&mut self, uncut: u32)
+        ensures { (p : ProblemParts) (t : NumberParts) (node : List ℕ) → AreEnds p t node self.old → AreUncut p node uncut
+            → AreEnds p t node self.new }
+    {
+        let end = self.last();
+        self.ends[self.last] = LeadEnd { uncut, ..end };
     }
 }

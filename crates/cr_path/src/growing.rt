@@ -60,6 +60,16 @@ fn below(place: u64, most: u32) -> Result<u32, Stopped>
     }
 }
 
+/// A place as a number of 32 bits. TooMany where it has more.
+pub fn narrow(place: usize) -> Result<u32, Stopped>
+    ensures { IfOk result (λ number. number ≡ place) }
+{
+    match u32::try_from(place) {
+        Ok(number) => Ok(number),
+        Err(_) => Err(Stopped::TooMany),
+    }
+}
+
 // The same rows in a stack with twice the room, or room for the most.
 fn with_more_room(alloc: Global, rows: &RowStack, most: u32) -> Result<RowStack, Stopped>
     ensures { IfOk result (λ more. more.rows ≡ rows.now.rows) }

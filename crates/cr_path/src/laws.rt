@@ -3,22 +3,25 @@
 ghost use Rattle.std.specs.Prelude.{◌≡◌, true, false, [], ◌∷◌, map};
 ghost use Rattle.cr_row.specs.Rows.{rounds};
 ghost use Rattle.cr_model.specs.Examples.{minimus, faulty, asks};
-ghost use Rattle.cr_path.specs.Numbers.{lead_from, brings_home, dies_after, IsNumbered};
-ghost use Rattle.cr_path.specs.Examples.{minimus_numbers, minimus_asked};
+ghost use Rattle.cr_path.specs.Numbers.{lead_from, brings_home, dies_after, IsTold, IsNumbered};
+ghost use Rattle.cr_path.specs.Examples.{minimus_numbers, minimus_asked, called, called_numbers};
 
-use cr_model::laws::{
-    a_test_decides_what_is_true, levels_list_rows, no_fewer_leads_lead_home, the_depth_is_greatest,
-};
+use cr_model::laws::{levels_list_rows, no_fewer_leads_lead_home, the_depth_is_greatest};
 
-/// The heads, the rows and the records of Plain Bob Minimus, each limit with the way home.
+/// The heads, the telling rows and the records of Plain Bob Minimus, each limit with the way home.
 pub fn plain_bob_minimus_has_its_numbers()
     ensures { IsNumbered minimus minimus_numbers }
 {
-    a_test_decides_what_is_true();
     levels_list_rows();
     no_fewer_leads_lead_home();
     the_depth_is_greatest();
 }
+
+/// Of two leads that have all rows but the last in common the first row tells so, and the last row of one does not.
+pub fn a_row_in_common_is_told()
+    ensures first { IsTold called (called_numbers 0) (lead_from called (rounds 4) 1) }
+    ensures last { IsTold called (called_numbers 1) (lead_from called (rounds 4) 1) → ⊥ }
+{}
 
 /// In two parts of Plain Bob Minimus, of at most 12 changes each, a lead may follow four changes and not five. Rounds
 /// as its last row is too early where there are several parts, and rounds as its last row but one always is. After no

@@ -124,7 +124,7 @@ impl<'a> Leads<'a> {
 
     /// The length below which a node may have a live child by this step, of which the head after it is given, and
     /// whether it brings rounds too early. It is 0 where no node may.
-    pub fn limit(&self, step: u8, after: &Row, home: bool) -> u32
+    pub fn limit(&self, step: u8, after: &Row, home: bool) -> u16
         requires { step < length self.now.leads }
         ensures { (head : List ℕ) → after.now ≡ head_after self.now head step → home ≡ brings_home self.now (lead_from self.now head step)
             → (rung : ℕ) → nat_lt rung result ≡ not (dies_after self.now head step rung) }
@@ -132,28 +132,28 @@ impl<'a> Leads<'a> {
         if home || self.has_row_twice(step) {
             return 0;
         }
-        let length = self.length_of(step);
+        let length = u64::from(self.length_of(step));
         let home = self.least_to_home(after);
         room_beside(self.facts.part_cap, length).min(room_beside(self.facts.cap, length + home))
     }
 
-    // Whether the lead of a step has a row twice.
+    /// Whether the lead of a step has a row twice.
     #[tactic(auto, using(crate::proofs::Lives::twice_at, crate::proofs::Lives::twice_counted))]
-    fn has_row_twice(&self, step: u8) -> bool
+    pub fn has_row_twice(&self, step: u8) -> bool
         requires { step < length self.now.leads }
         ensures { result ≡ has_row_twice self.now step }
     {
         self.facts.twice[usize::from(step)]
     }
 
-    // The number of changes of a step.
+    /// The number of changes of a step.
     #[tactic(auto, using(crate::proofs::Bounds::lead_few))]
-    fn length_of(&self, step: u8) -> u64
+    pub fn length_of(&self, step: u8) -> u8
         requires { step < length self.now.leads }
         ensures is { result ≡ lead_length self.now step }
         ensures few { result ≤ 128 }
     {
-        lead_length(self.problem.leads(), step)
+        lead_length(self.problem.leads(), step) as u8
     }
 
     // The least number of changes that may lead from a head to rounds.
@@ -176,9 +176,9 @@ fn lead_length(leads: &[Lead], step: u8) -> u64
 }
 
 // One more than the greatest number that makes with another no more than the most, or 0 where none does.
-fn room_beside(most: u64, other: u64) -> u32
+fn room_beside(most: u64, other: u64) -> u16
     requires { most ≤ 12000 }
     ensures { (number : ℕ) → nat_lt number result ≡ not (nat_lt most (number + other)) }
 {
-    (most + 1).saturating_sub(other) as u32
+    (most + 1).saturating_sub(other) as u16
 }

@@ -1,7 +1,8 @@
 //! Paths by numbers: where the lead heads of a problem can be numbered, nothing is rung while it is searched.
 #![tactic(auto)]
 
-mod asked;
+mod counting;
+mod covers;
 mod ends;
 mod facts;
 mod growing;
@@ -9,12 +10,19 @@ mod heads;
 mod laws;
 mod leads;
 mod marks;
+mod naming;
 mod numbering;
 mod parts;
+mod path;
+mod proposed;
+mod sets;
 mod stopped;
 mod table;
+mod telling;
 mod walk;
 
-pub use laws::{leads_die_at_the_edges, plain_bob_minimus_has_its_numbers};
+pub use laws::{
+    a_row_in_common_is_told, leads_die_at_the_edges, plain_bob_minimus_has_its_numbers,
+};
 pub use table::NumberTable;
 pub use walk::NumberWalk;

@@ -1,13 +1,13 @@
-//! Marks of numbered rows.
+//! Marks of telling rows.
 
 ghost use Rattle.std.specs.Prelude.{◌≡◌, ◌+◌, ◌-◌, ◌<◌, ◌≤◌, true, false, length, get_or, replicate, All, IfOk};
-ghost use Rattle.cr_path.specs.Marks.{some_marked, AreSet, numbers_differ};
+ghost use Rattle.cr_path.specs.Marks.{some_marked, AreSet};
 
 use cr_row::NoMemory;
 use std::alloc::Global;
 use std::marker::Model;
 
-/// Of each numbered row whether it is marked, and the number of leads whose rows are.
+/// Of each telling row whether it is marked, and the number of leads whose telling rows are.
 ///
 /// It is seen as the list of marks and that number.
 #[derive(Drop)]
@@ -33,7 +33,7 @@ impl Marks {
         Ok(Marks { marks, fresh: 0 })
     }
 
-    /// The number of leads whose rows are marked.
+    /// The number of leads whose telling rows are marked.
     pub fn fresh(&self) -> usize
         ensures { result ≡ self.now.fresh }
     {
@@ -56,7 +56,7 @@ impl Marks {
         some_marked(&self.marks, numbers)
     }
 
-    /// Marks the rows of one lead more, if they are new.
+    /// Marks the telling rows of one lead more, if its rows are new.
     pub fn add(&mut self, numbers: &[u32], is_new: bool)
         requires within { All (λ number. number < length self.old.marks) numbers.now }
         requires few { self.old.fresh ≤ 1024 }
@@ -70,7 +70,7 @@ impl Marks {
         }
     }
 
-    /// Takes the marks of the last of so many leads away, if the rows of all of them are marked.
+    /// Takes the marks of the last of so many leads away, if those of all of them are marked.
     pub fn take_back(&mut self, leads: usize, numbers: &[u32])
         requires within { All (λ number. number < length self.old.marks) numbers.now }
         requires some { 0 < leads }
@@ -104,16 +104,4 @@ fn set_all(marks: &mut [bool], numbers: &[u32], mark: bool)
     for number in numbers {
         marks[*number as usize] = mark;
     }
-}
-
-/// Whether no number stands twice. It takes no memory, and a time that grows with the square of how many they are.
-pub fn numbers_differ(numbers: &[u32]) -> bool
-    ensures { result ≡ numbers_differ numbers.now }
-{
-    for index in 0..numbers.len() {
-        if numbers[index + 1..].contains(&numbers[index]) {
-            return false;
-        }
-    }
-    true
 }

@@ -1,16 +1,15 @@
-//! The leads of a problem, rung from all heads, with numbers for their rows.
+//! The leads of a problem, rung from all heads, with a number for each of their rows.
 
 ghost use Rattle.std.specs.Prelude.{◌≡◌, ◌+◌, ◌*◌, ◌<◌, ◌≤◌, length, map, All, IfOk};
 ghost use Rattle.cr_row.specs.Rows.{product};
-ghost use Rattle.cr_path.specs.Numbers.{IsNumbered};
 ghost use Rattle.cr_path.specs.Numbering.{AreHeads, AreNumbered, IsBegun};
 ghost use Rattle.cr_path.specs.Begun.{numbers_in};
+ghost use Rattle.cr_path.specs.Rung.{IsHeld, rung_numbers, IsRung};
 
-use crate::growing::number;
+use crate::growing::{narrow, number};
 use crate::heads::all_heads;
 use crate::leads::Leads;
 use crate::stopped::Stopped;
-use crate::table::LeadRecord;
 use cr_row::Row;
 use cr_rowset::RowStack;
 use std::alloc::Global;
@@ -21,12 +20,39 @@ const MOST_ROWS: u32 = 1 << 20;
 // The most changes of the shortest lead, rung from all heads. Often two of them make one row.
 const MOST_LEAD_ROWS: u32 = 2 * MOST_ROWS;
 
+/// What is known of the lead of a step that is rung from a head.
+#[derive(Debug, Drop, Clone, Copy)]
+pub struct RungLead {
+    /// The number of the head after it.
+    pub next: u32,
+    /// Where the numbers of its rows start.
+    pub start: u32,
+    /// Where they end.
+    pub end: u32,
+    /// The child may live only where its node has fewer changes than this.
+    pub limit: u16,
+    /// Its number of changes.
+    pub length: u8,
+    /// Whether it has a row twice in itself.
+    pub twice: bool,
+}
+
+impl RungLead {
+    /// The numbers of its rows, of those of all leads.
+    pub fn numbers_in(self, numbers: &[u32]) -> &[u32]
+        requires { IsHeld (length numbers.now) self }
+        ensures { result.now ≡ rung_numbers numbers.now self }
+    {
+        &numbers[self.start as usize..self.end as usize]
+    }
+}
+
 /// Heads and rows at their numbers, a record of each lead that was rung so far, and the numbers of the rows of these.
 #[derive(Drop)]
 pub struct Numbering {
     pub heads: RowStack,
     pub rows: RowStack,
-    pub records: Vec<LeadRecord>,
+    pub records: Vec<RungLead>,
     pub numbers: Vec<u32>,
 }
 
@@ -34,8 +60,7 @@ impl Numbering {
     /// The numbers of all leads that are rung from heads to which leads lead from rounds. TooMany where the heads are
     /// more than the most, or the rows more than are numbered.
     pub fn of(alloc: Global, leads: &Leads, most_heads: u64) -> Result<Numbering, Stopped>
-        ensures numbered { IfOk result (λ made. IsNumbered leads.now (numbers_in leads.now made)) }
-        ensures records { IfOk result (λ made. length made.records.items ≡ length made.heads.rows * length leads.now.leads) }
+        ensures { IfOk result (λ made. IsRung leads.now (numbers_in leads.now made)) }
     {
         let most_heads = most_heads.min(u64::from(MOST_LEAD_ROWS) / leads.shortest()) as u32;
         let heads = all_heads(alloc, leads, most_heads)?;
@@ -134,23 +159,15 @@ fn number_lead(
     let after = leads.head_after(&head, step);
     let next = number(alloc, &mut made.heads, after, most_heads)?;
     let home = leads.bring_home(&made.numbers[start..]);
-    made.records.push(LeadRecord {
+    made.records.push(RungLead {
         next,
-        limit: leads.limit(step, &after, home),
         start: narrow(start)?,
         end: narrow(made.numbers.len())?,
+        limit: leads.limit(step, &after, home),
+        length: leads.length_of(step),
+        twice: leads.has_row_twice(step),
     })?;
     Ok(())
-}
-
-// A place as a number of 32 bits.
-fn narrow(place: usize) -> Result<u32, Stopped>
-    ensures { IfOk result (λ number. number ≡ place) }
-{
-    match u32::try_from(place) {
-        Ok(number) => Ok(number),
-        Err(_) => Err(Stopped::TooMany),
-    }
 }
 
 // Appends the numbers of the rows of a lead that is rung from a head.

@@ -7,7 +7,7 @@ ghost use Rattle.cr_model.specs.Dead.{parts_of};
 ghost use Rattle.cr_model.specs.Levels.{is_listed};
 ghost use Rattle.cr_model.specs.Queries.{repeated};
 ghost use Rattle.cr_path.specs.Marks.{AreOf};
-ghost use Rattle.cr_path.specs.Numbers.{IsNumbered};
+ghost use Rattle.cr_path.specs.Numbers.{IsNumbered, IsTold};
 ghost use Rattle.cr_path.specs.Parts.{IsHead, Passes};
 
 use crate::marks::Marks;
@@ -37,7 +37,7 @@ pub fn bring_new_rows(
     requires steps { HasSteps problem.now node.now }
     requires counted { length marks.now.marks ≡ length numbers.now.rows }
     requires head { IsHead problem.now numbers.now head }
-    ensures { (rows : List (List ℕ)) → AreOf numbers.now rows marks.now.marks
+    ensures { (rows : List (List ℕ)) → IsTold problem.now numbers.now rows → AreOf numbers.now rows marks.now.marks
         → result ≡ not (list_any (is_listed rows) (rows_from (get_or numbers.now.heads head []) (changes_of_all problem.now (repeated parts node.now)))) }
 {
     let mut head = head;
@@ -63,7 +63,7 @@ fn pass_part(
     requires counted { length marks.now.marks ≡ length numbers.now.rows }
     requires from { IsHead problem.now numbers.now from }
     ensures head { IfSome result (λ head. IsHead problem.now numbers.now head) }
-    ensures passes { (rows : List (List ℕ)) → AreOf numbers.now rows marks.now.marks
+    ensures passes { (rows : List (List ℕ)) → IsTold problem.now numbers.now rows → AreOf numbers.now rows marks.now.marks
         → Passes problem.now numbers.now rows from (changes_of_all problem.now node.now) result }
 {
     let mut head = from;

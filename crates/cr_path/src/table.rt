@@ -1,15 +1,17 @@
-//! The lead heads and the rows of a problem by numbers, and of each head and step a record of the lead.
+//! The lead heads and the telling rows of a problem by numbers, and of each head and step a record of the lead.
 
-ghost use Rattle.std.specs.Prelude.{◌≡◌, ◌+◌, ◌-◌, ◌*◌, ◌<◌, ◌≤◌, [], length, get_or, take, drop, IfOk, IfSome};
+ghost use Rattle.std.specs.Prelude.{◌≡◌, ◌+◌, ◌*◌, ◌<◌, ◌≤◌, [], length, get_or, take, drop, IfOk, IfSome};
 ghost use Rattle.cr_leads.specs.Tables.{lead_table};
 ghost use Rattle.cr_model.specs.Sizes.{most_rows};
 ghost use Rattle.cr_reach.specs.Tables.{reach_table};
-ghost use Rattle.cr_path.specs.Numbers.{IsNumbered, AreKept};
-ghost use Rattle.cr_path.specs.Begun.{parts_of};
+ghost use Rattle.cr_path.specs.Numbers.{IsNumbered};
 
+use crate::covers::cover_of;
 use crate::leads::Leads;
+use crate::naming::Named;
 use crate::numbering::Numbering;
 use crate::stopped::Stopped;
+use crate::telling::Telling;
 use cr_leads::LeadTable;
 use cr_model::Problem;
 use cr_reach::ReachTable;
@@ -23,24 +25,28 @@ use std::marker::Model;
 pub struct LeadRecord {
     /// The number of the head after it.
     pub next: u32,
+    /// Where the numbers of its telling rows start.
+    pub start: u32,
     /// The child may live only where its node has fewer changes than this: the child is then not too long, has no row
     /// twice in its last lead, does not bring rounds too early, and home is not too far from it.
-    pub limit: u32,
-    /// Where the numbers of its rows start.
-    pub start: u32,
-    /// Where they end.
-    pub end: u32,
+    pub limit: u16,
+    /// How many telling rows it has.
+    pub count: u8,
+    /// Its number of changes.
+    pub length: u8,
+    /// Whether it has a row twice in itself.
+    pub twice: bool,
 }
 
-/// The lead heads that leads reach from rounds and the rows of all leads rung from them, by numbers, with a record of
-/// each head and step.
+/// The lead heads that leads reach from rounds and the telling rows of all leads rung from them, by numbers, with a
+/// record of each head and step. Two leads have a row in common exactly where they have a telling row in common.
 ///
-/// It is seen as the number of steps, the heads, the rows, the records and the numbers of the rows.
+/// It is seen as the number of steps, the heads, the telling rows, the records and the numbers of the telling rows.
 #[derive(Drop)]
 pub struct NumberTable {
     steps: u8,
     heads: Vec<Row>,
-    rows: RowStack,
+    rows: Vec<Row>,
     // The record of a head and a step stands at head * steps + step.
     records: Vec<LeadRecord>,
     numbers: Vec<u32>,
@@ -54,7 +60,7 @@ impl Model for NumberTable {
     ghost view = { λ t. record {
       steps = t.steps;
       heads = t.heads.items;
-      rows = t.rows.rows;
+      rows = t.rows.items;
       records = t.records.items;
       numbers = t.numbers.items;
     } };
@@ -62,7 +68,7 @@ impl Model for NumberTable {
     ghost invariant = { λ t. AreKept (record {
       steps = t.steps;
       heads = t.heads.items;
-      rows = t.rows.rows;
+      rows = t.rows.items;
       records = t.records.items;
       numbers = t.numbers.items;
     }) };
@@ -83,18 +89,18 @@ impl NumberTable {
         ensures { IfOk result (λ table. IfSome table (λ t. IsNumbered problem.now t)) }
     {
         let given = Leads::new(alloc, problem, leads, reach)?;
-        match Numbering::of(alloc, &given, most_heads) {
-            Ok(made) => Ok(Some(table_of(alloc, given.count(), made)?)),
+        match table_of(alloc, &given, most_heads) {
+            Ok(table) => Ok(Some(table)),
             Err(Stopped::TooMany) => Ok(None),
             Err(Stopped::NoMemory) => Err(NoMemory),
         }
     }
 
-    /// The number of rows.
+    /// The number of telling rows.
     pub(crate) fn row_count(&self) -> usize
         ensures { result ≡ length self.now.rows }
     {
-        self.rows.len() as usize
+        self.rows.len()
     }
 
     /// The head with this number.
@@ -115,28 +121,31 @@ impl NumberTable {
         self.records[head as usize * usize::from(self.steps) + usize::from(step)]
     }
 
-    /// The numbers of the rows of a lead.
+    /// The numbers of the telling rows of a lead.
     pub(crate) fn numbers_of(&self, lead: LeadRecord) -> &[u32]
-        requires start { lead.start ≤ lead.end }
-        requires end { lead.end ≤ length self.now.numbers }
-        ensures { result.now ≡ take (lead.end - lead.start) (drop lead.start self.now.numbers) }
+        requires { lead.start + lead.count ≤ length self.now.numbers }
+        ensures { result.now ≡ take lead.count (drop lead.start self.now.numbers) }
     {
-        &self.numbers[lead.start as usize..lead.end as usize]
+        let start = lead.start as usize;
+        &self.numbers[start..start + usize::from(lead.count)]
     }
 }
 
-// The table of numbers that are made.
-fn table_of(alloc: Global, steps: u8, made: Numbering) -> Result<NumberTable, NoMemory>
-    requires { AreKept (parts_of steps made) }
-    ensures { IfOk result (λ table. table ≡ parts_of steps made) }
+// The table of leads that are rung from at most so many heads.
+fn table_of(alloc: Global, leads: &Leads, most_heads: u64) -> Result<NumberTable, Stopped>
+    ensures { IfOk result (λ table. IsNumbered leads.now table) }
 {
+    let made = Numbering::of(alloc, leads, most_heads)?;
+    let cover = cover_of(alloc, &made)?;
+    let telling = Telling::of(alloc, &made.rows, &cover)?;
+    let named = Named::of(alloc, &made, &cover, &telling)?;
     let heads = rows_of(alloc, &made.heads)?;
     Ok(NumberTable {
-        steps,
+        steps: leads.count(),
         heads,
-        rows: made.rows,
-        records: made.records,
-        numbers: made.numbers,
+        rows: telling.rows,
+        records: named.records,
+        numbers: named.numbers,
     })
 }
 

@@ -1,33 +1,24 @@
 //! A walk through the nodes of a problem, by numbers.
 
-ghost use Rattle.std.specs.Prelude.{◌≡◌, ◌-◌, ◌<◌, ◌≤◌, ◌↔◌, ◌||◌, ℕ, true, false, not, [], ◌∷◌, length, find, take, is_none, MatchBool, IsTrue, IfOk, IfNone, IfSome};
+ghost use Rattle.std.specs.Prelude.{◌≡◌, ◌-◌, ◌<◌, ◌≤◌, ◌↔◌, true, not, [], length, find, is_none, IsTrue, IfOk, IfNone, IfSome};
 ghost use Rattle.std.specs.List.{range_with_len};
 ghost use Rattle.cr_row.specs.Rows.{rounds};
 ghost use Rattle.cr_model.specs.Callings.{rows_of, length_of, head_of, HasSteps};
-ghost use Rattle.cr_model.specs.Dead.{dead, has_rounds, is_turned_back};
+ghost use Rattle.cr_model.specs.Dead.{dead};
 ghost use Rattle.cr_model.specs.Decided.{rows_differ};
 ghost use Rattle.cr_model.specs.Nodes.{IsValid};
 ghost use Rattle.cr_model.specs.OneTurn.{touch_of};
-ghost use Rattle.cr_model.specs.Queries.{part_cap};
 ghost use Rattle.cr_model.specs.Sizes.{most_rows, child};
 ghost use Rattle.cr_model.specs.Turning.{IsLeastRotation};
 ghost use Rattle.cr_leads.specs.Tables.{lead_table};
 ghost use Rattle.cr_query.specs.Meeting.{MeetsCounts, MeetsMethodCounts};
-ghost use Rattle.cr_query.specs.Meters.{is_hopeless_by_leads};
-ghost use Rattle.cr_path.specs.Living.{is_clean, is_cut, is_hopeless, is_live, IsFirstUncut};
 ghost use Rattle.cr_path.specs.Numbers.{IsNumbered};
-ghost use Rattle.cr_path.specs.Walks.{walk_from, parent, room_of};
+ghost use Rattle.cr_path.specs.Walks.{walk_from, room_of};
 
-use crate::asked::Asked;
-use crate::ends::{Ends, LeadEnd};
-use crate::marks::{Marks, numbers_differ};
-use crate::parts::{bring_new_rows, parts_to_try};
+use crate::path::Path;
 use crate::table::NumberTable;
 use cr_leads::LeadTable;
 use cr_model::Problem;
-use cr_query::Meter;
-use cr_query::laws::what_is_hopeless_by_leads_is_hopeless;
-use cr_rotate::Period;
 use cr_row::{NoMemory, Row};
 use std::alloc::Global;
 use std::marker::Model;
@@ -38,26 +29,15 @@ use std::marker::Model;
 /// patterns. What it tells of its node takes a time that does not grow with the node, but for `parts_differ`.
 #[derive(Drop)]
 pub struct NumberWalk<'a> {
-    problem: &'a Problem,
-    leads: &'a LeadTable,
-    numbers: &'a NumberTable,
-    // The node.
-    steps: Period,
-    ends: Ends,
-    // The rows of the first leads, of as many as bring no row again.
-    marks: Marks,
-    meter: Meter,
-    asked: Asked,
+    path: Path<'a>,
 }
 
 impl<'a> Model for NumberWalk<'a> {
-    ghost use Rattle.cr_path.specs.Walks.{WalkParts, walk_from, IsWalk};
+    ghost use Rattle.cr_path.specs.Walks.{WalkParts, walk_from};
 
     ghost Value = { WalkParts };
 
-    ghost view = { λ w. walk_from w.problem.now w.steps };
-
-    ghost invariant = { λ w. IsWalk w.problem.now w.leads.now w.numbers.now w.steps w.ends w.marks.marks w.marks.fresh w.meter w.asked };
+    ghost view = { λ w. walk_from w.path.problem w.path.node };
 }
 
 impl<'a> NumberWalk<'a> {
@@ -72,21 +52,8 @@ impl<'a> NumberWalk<'a> {
         requires numbers { IsNumbered problem.now numbers.now }
         ensures { IfOk result (λ walk. walk ≡ record { problem = problem.now; node = [] }) }
     {
-        let steps = Period::new(alloc)?;
-        let ends = Ends::new(alloc)?;
-        let marks = Marks::new(alloc, numbers.row_count())?;
-        let meter = Meter::new(alloc, problem)?;
-        let asked = Asked::of(problem);
-        Ok(NumberWalk {
-            problem,
-            leads,
-            numbers,
-            steps,
-            ends,
-            marks,
-            meter,
-            asked,
-        })
+        let path = Path::new(alloc, problem, leads, numbers)?;
+        Ok(NumberWalk { path })
     }
 
     /// Goes to the child with the least step from this one on that is not dead, and gives the step. None where there
@@ -99,20 +66,7 @@ impl<'a> NumberWalk<'a> {
         ensures stays { IfNone result (self.new ≡ self.old) }
         ensures goes { IfSome result (λ step. self.new ≡ walk_from self.old.problem (child self.old.node step)) }
     {
-        what_is_hopeless_by_leads_is_hopeless();
-        // A problem keeps all of its checks, so that there are few steps.
-        let _ = self.problem.stage();
-        if !self.is_clean() {
-            return None;
-        }
-        let mut next = from;
-        while let Some(step) = self.first_uncut(next) {
-            if self.goes_live(step) {
-                return Some(step);
-            }
-            next = step + 1;
-        }
-        None
+        self.path.go_down(from)
     }
 
     /// Goes back to the node without the last step, and gives that step. It takes no memory.
@@ -121,10 +75,7 @@ impl<'a> NumberWalk<'a> {
         ensures problem { self.new.problem ≡ self.old.problem }
         ensures node { self.old.node ≡ child self.new.node result }
     {
-        let steps = self.steps.steps();
-        let step = steps[steps.len() - 1];
-        self.back();
-        step
+        self.path.go_up()
     }
 
     /// Goes to a node. It does not leave the steps with which both begin, and takes no memory.
@@ -132,11 +83,7 @@ impl<'a> NumberWalk<'a> {
         requires valid { IsValid self.old.problem node.now }
         ensures { self.new ≡ walk_from self.old.problem node.now }
     {
-        let front = common_front(self.steps.steps(), node);
-        self.go_back_to(front);
-        for index in front..node.len() {
-            self.go_on(node[index]);
-        }
+        self.path.go_to(node)
     }
 
     /// The steps of the node.
@@ -146,7 +93,7 @@ impl<'a> NumberWalk<'a> {
         ensures known { HasSteps self.now.problem self.now.node }
         ensures valid { IsValid self.now.problem self.now.node }
     {
-        self.steps.steps()
+        self.path.steps()
     }
 
     /// The last row of the node, or rounds where it has no steps.
@@ -154,7 +101,7 @@ impl<'a> NumberWalk<'a> {
         ensures is { result ≡ head_of self.now.problem self.now.node }
         ensures same_stage { length result ≡ self.now.problem.stage }
     {
-        self.numbers.head_at(self.ends.last().head)
+        self.path.head()
     }
 
     /// The number of rows of the node.
@@ -163,14 +110,14 @@ impl<'a> NumberWalk<'a> {
         ensures within { result ≤ room_of self.now.problem }
         ensures few { result ≤ 12128 }
     {
-        u64::from(self.ends.last().rung)
+        self.path.length()
     }
 
     /// Whether a row of the node stands twice.
     pub fn has_repeat(&self) -> bool
         ensures { result ≡ not (rows_differ (rows_of self.now.problem self.now.node)) }
     {
-        self.marks.fresh() != self.steps.steps().len()
+        self.path.has_repeat()
     }
 
     /// Whether all rows of the node's touch differ, where those of the node do and the touch comes home. It takes no
@@ -180,23 +127,14 @@ impl<'a> NumberWalk<'a> {
         requires home { head_of self.now.problem (touch_of self.now.problem self.now.node) ≡ rounds self.now.problem.stage }
         ensures { result ≡ rows_differ (rows_of self.now.problem (touch_of self.now.problem self.now.node)) }
     {
-        let head = self.ends.last().head;
-        let parts = parts_to_try(self.problem);
-        bring_new_rows(
-            self.problem,
-            self.numbers,
-            &self.marks,
-            self.steps.steps(),
-            head,
-            parts,
-        )
+        self.path.parts_differ()
     }
 
     /// Whether no rotation of the node is less than it.
     pub fn is_least(&self) -> bool
         ensures { IsTrue result ↔ IsLeastRotation self.now.node }
     {
-        self.steps.is_least()
+        self.path.is_least()
     }
 
     /// Whether the node's touch, which is so many times the node as the query has parts, meets each count of marks
@@ -205,168 +143,8 @@ impl<'a> NumberWalk<'a> {
         ensures { IsTrue result ↔ (MeetsCounts self.now.problem (touch_of self.now.problem self.now.node)
             × MeetsMethodCounts self.now.problem (touch_of self.now.problem self.now.node)) }
     {
-        self.meter.meets_counts()
+        self.path.meets_counts()
     }
-
-    // Whether no row of the node stands twice, and none is rounds.
-    fn is_clean(&self) -> bool
-        ensures { result ≡ is_clean self.now.problem self.now.node }
-    {
-        !self.has_repeat() && !self.marks.has_first()
-    }
-
-    // The least step from this one on by which the child of a clean node is not cut.
-    fn first_uncut(&self, from: u8) -> Option<u8>
-        requires clean { is_clean self.now.problem self.now.node ≡ true }
-        requires from { from ≤ length self.now.problem.leads }
-        ensures { IsFirstUncut self.now.problem most_rows self.now.node from result }
-    {
-        for step in from..self.leads.count() {
-            if !self.is_cut(step) {
-                return Some(step);
-            }
-        }
-        None
-    }
-
-    // Whether the child of a clean node by a step is dead, but for rows that fit patterns.
-    fn is_cut(&self, step: u8) -> bool
-        requires clean { is_clean self.now.problem self.now.node ≡ true }
-        requires step { step < length self.now.problem.leads }
-        ensures { result ≡ is_cut self.now.problem most_rows (child self.now.node step) }
-    {
-        let end = self.ends.last();
-        let lead = self.numbers.lead(end.head, step);
-        if end.rung >= lead.limit {
-            return true;
-        }
-        self.marks.has_some(self.numbers.numbers_of(lead)) || self.is_unasked(step)
-    }
-
-    // Whether the child by a step turns back, or has too many or too few leads for the query.
-    fn is_unasked(&self, step: u8) -> bool
-        requires { step < length self.now.problem.leads }
-        ensures { result ≡ (is_turned_back self.now.problem (child self.now.node step)
-            || is_hopeless_by_leads self.now.problem (child self.now.node step)) }
-    {
-        self.is_turned_back(step) || self.meter.is_hopeless_with(step)
-    }
-
-    // Whether the child by a step turns back, if the query is the same for all rotations.
-    fn is_turned_back(&self, step: u8) -> bool
-        ensures { result ≡ is_turned_back self.now.problem (child self.now.node step) }
-    {
-        self.asked.turn_free && self.steps.turns_back_with(step)
-    }
-
-    // Goes to the child by a step, which is not cut, if it is not dead, and says so.
-    fn goes_live(&mut self, step: u8) -> bool
-        requires step { step < length self.old.problem.leads }
-        requires uncut { is_cut self.old.problem most_rows (child self.old.node step) ≡ false }
-        ensures live { result ≡ is_live self.old.problem most_rows self.old.node step }
-        ensures walk { MatchBool result (self.new ≡ walk_from self.old.problem (child self.old.node step)) (self.new ≡ self.old) }
-    {
-        what_is_hopeless_by_leads_is_hopeless();
-        // A problem keeps all of its checks.
-        let _ = self.problem.stage();
-        self.go(step, true);
-        if self.is_hopeless() {
-            self.back();
-            return false;
-        }
-        true
-    }
-
-    // Whether the node, which is not hopeless by its leads, has too many or too few rows that fit a pattern.
-    fn is_hopeless(&self) -> bool
-        requires { is_hopeless_by_leads self.now.problem self.now.node ≡ false }
-        ensures { result ≡ is_hopeless self.now.problem self.now.node }
-    {
-        self.asked.patterns && self.meter.hopeless().is_some()
-    }
-
-    // Goes to the child by a step, where that may have a row twice.
-    fn go_on(&mut self, step: u8)
-        requires few { length self.old.node < 1024 }
-        requires valid { IsValid self.old.problem (child self.old.node step) }
-        ensures { self.new ≡ walk_from self.old.problem (child self.old.node step) }
-    {
-        let is_new = self.brings_new_rows(step);
-        self.go(step, is_new);
-    }
-
-    // Whether no row of the child by a step stands twice.
-    fn brings_new_rows(&self, step: u8) -> bool
-        requires { step < length self.now.problem.leads }
-        ensures { result ≡ rows_differ (rows_of self.now.problem (child self.now.node step)) }
-    {
-        if self.has_repeat() {
-            return false;
-        }
-        let lead = self.numbers.lead(self.ends.last().head, step);
-        let numbers = self.numbers.numbers_of(lead);
-        numbers_differ(numbers) && !self.marks.has_some(numbers)
-    }
-
-    // Goes to the child by a step, of whose rows it is known whether they differ.
-    fn go(&mut self, step: u8, is_new: bool)
-        requires few { length self.old.node < 1024 }
-        requires valid { IsValid self.old.problem (child self.old.node step) }
-        requires new { is_new ≡ rows_differ (rows_of self.old.problem (child self.old.node step)) }
-        ensures { self.new ≡ walk_from self.old.problem (child self.old.node step) }
-    {
-        let end = self.ends.last();
-        let lead = self.numbers.lead(end.head, step);
-        self.marks.add(self.numbers.numbers_of(lead), is_new);
-        self.meter
-            .add_lead(self.leads, step, &self.numbers.head_at(end.head));
-        self.ends.push(LeadEnd {
-            head: lead.next,
-            rung: end.rung + (lead.end - lead.start),
-        });
-        self.steps.push(step);
-    }
-
-    // Goes back to the node without the last step.
-    fn back(&mut self)
-        requires { 0 < length self.old.node }
-        ensures { self.new ≡ walk_from self.old.problem (parent self.old.node) }
-    {
-        let number = self.steps.steps().len();
-        let step = self.steps.steps()[number - 1];
-        self.ends.pop();
-        let end = self.ends.last();
-        let lead = self.numbers.lead(end.head, step);
-        self.marks.take_back(number, self.numbers.numbers_of(lead));
-        self.meter
-            .take_back(self.leads, step, &self.numbers.head_at(end.head));
-        self.steps.pop();
-    }
-
-    // Goes back to so many steps.
-    fn go_back_to(&mut self, number: usize)
-        requires { number ≤ length self.old.node }
-        ensures { self.new ≡ walk_from self.old.problem (take number self.old.node) }
-    {
-        while self.steps().len() > number {
-            self.back();
-        }
-    }
-}
-
-// With how many steps both begin.
-fn common_front(node: &[u8], other: &[u8]) -> usize
-    ensures within { result ≤ length node.now }
-    ensures inside { result ≤ length other.now }
-    ensures same { take result node.now ≡ take result other.now }
-{
-    let number = node.len().min(other.len());
-    for index in 0..number {
-        if node[index] != other[index] {
-            return index;
-        }
-    }
-    number
 }
 
 #[cfg(test)]

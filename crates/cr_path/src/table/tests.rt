@@ -34,6 +34,17 @@ const DOUBLES: Draft = Draft {
     ],
 };
 
+// On six bells with bobs and singles.
+const MINOR: Draft = Draft {
+    stage: 6,
+    max: 72,
+    leads: &[
+        (b'p', b"x.16.x.16.x.16.x.16.x.16.x.12"),
+        (b'b', b"x.16.x.16.x.16.x.16.x.16.x.14"),
+        (b's', b"x.16.x.16.x.16.x.16.x.16.x.1234"),
+    ],
+};
+
 // On ten bells with bobs and singles. The last place is 0.
 const ROYAL: Draft = Draft {
     stage: 10,
@@ -128,27 +139,34 @@ fn table(alloc: Global, draft: &Draft, most_heads: u64) -> Result<Option<NumberT
     }
 }
 
-// How many heads and rows there are.
-fn counts(alloc: Global, draft: &Draft, most_heads: u64) -> Result<Option<(usize, usize)>, Fail> {
+// How many heads and telling rows there are, and how many telling rows in all leads.
+type Counts = (usize, usize, usize);
+
+fn counts(alloc: Global, draft: &Draft, most_heads: u64) -> Result<Option<Counts>, Fail> {
     match table(alloc, draft, most_heads)? {
-        Some(table) => Ok(Some((table.heads.len(), table.row_count()))),
+        Some(table) => Ok(Some((table.heads.len(), table.row_count(), table.numbers.len()))),
         None => Ok(None),
     }
 }
 
-// The most heads, and how many heads and rows get numbers.
-type Wanted = (&'static str, Draft, u64, Option<(usize, usize)>);
+// The most heads, and what is counted.
+type Wanted = (&'static str, Draft, u64, Option<Counts>);
 
-const TABLES: [Wanted; 5] = [
-    ("Minimus", MINIMUS, 3, Some((3, 24))),
+// In Minimus each row stands in one lead. In the others the rows of a lead but its last two stand in the same leads,
+// those that are rung from its head and from its last row but one: half as many of them are telling as there are heads.
+// Each row that begins with the treble stands in leads that have no other row in common, and is telling. So a lead has
+// three telling rows.
+const TABLES: [Wanted; 6] = [
+    ("Minimus", MINIMUS, 3, Some((3, 3, 3))),
     ("Minimus in two heads", MINIMUS, 2, None),
-    ("Doubles", DOUBLES, 24, Some((24, 120))),
+    ("Doubles", DOUBLES, 24, Some((24, 24 + 12, 24 * 2 * 3))),
     ("Doubles in 23 heads", DOUBLES, 23, None),
+    ("Minor", MINOR, 120, Some((120, 120 + 60, 120 * 3 * 3))),
     ("Royal in 1,000 heads", ROYAL, 1_000, None),
 ];
 
 #[test]
-fn heads_and_rows_are_counted(rt: HostRuntime) -> Result<(), Fail> {
+fn heads_and_telling_rows_are_counted(rt: HostRuntime) -> Result<(), Fail> {
     for (name, draft, most_heads, wanted) in TABLES {
         if counts(rt.alloc(), &draft, most_heads)? != wanted {
             return Err(Fail::from(name));
@@ -159,25 +177,36 @@ fn heads_and_rows_are_counted(rt: HostRuntime) -> Result<(), Fail> {
 
 const HEADS: [&[u8]; 3] = [&[1, 2, 3, 4], &[1, 3, 4, 2], &[1, 4, 2, 3]];
 
-// Three leads of eight changes make a touch of 24. The last row of the third is rounds, which has number 0.
+// The first rows of two leads, and rounds, which is the last row of the third.
+const ROWS: [&[u8]; 3] = [&[1, 2, 3, 4], &[2, 1, 4, 3], &[3, 1, 2, 4]];
+
+const NUMBERS: [u32; 3] = [1, 2, 0];
+
+// Three leads of eight changes make a touch of 24.
 const RECORDS: [LeadRecord; 3] = [
     LeadRecord {
         next: 1,
-        limit: 1,
         start: 0,
-        end: 8,
+        limit: 1,
+        count: 1,
+        length: 8,
+        twice: false,
     },
     LeadRecord {
         next: 2,
+        start: 1,
         limit: 9,
-        start: 8,
-        end: 16,
+        count: 1,
+        length: 8,
+        twice: false,
     },
     LeadRecord {
         next: 0,
+        start: 2,
         limit: 17,
-        start: 16,
-        end: 24,
+        count: 1,
+        length: 8,
+        twice: false,
     },
 ];
 
@@ -187,12 +216,10 @@ fn leads_of_minimus(rt: HostRuntime) -> Result<(), Fail> {
         return Err(Fail::from("there are three heads"));
     };
     assert!(rt; table.records.as_slice() == &RECORDS[..]);
+    assert!(rt; table.numbers.as_slice() == &NUMBERS[..]);
     for place in 0..3 {
         assert!(rt; Row::of(HEADS[place]).as_ref() == table.heads.get(place));
-    }
-    for place in 0..table.numbers.len() {
-        let number = if place == 23 { 0 } else { place + 1 };
-        assert!(rt; table.numbers[place] as usize == number);
+        assert!(rt; Row::of(ROWS[place]).as_ref() == table.rows.get(place));
     }
     Ok(())
 }

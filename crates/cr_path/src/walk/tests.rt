@@ -372,3 +372,41 @@ fn nodes_with_rows_twice(rt: HostRuntime) -> Result<(), Fail> {
     assert!(rt; goes_to_all(rt.alloc(), &problem, &leads, &mut walk)?);
     Ok(())
 }
+
+// Of nodes that are gone to, one after another, the first live step from one on. The node of four plain leads has come
+// home; after a bob, a plain lead turns back; from the third step on there is none.
+const FIRST_STEPS: [(&[u8], u8, Option<u8>); 7] = [
+    (&[0, 0, 0], 1, Some(1)),
+    (&[0], 1, Some(1)),
+    (&[0, 0, 0, 0], 0, None),
+    (&[0, 0, 0], 0, Some(0)),
+    (&[1], 0, Some(1)),
+    (&[0], 2, None),
+    (&[0], 0, Some(0)),
+];
+
+fn goes_down_from_all(
+    alloc: Global,
+    problem: &Problem,
+    leads: &LeadTable,
+    walk: &mut NumberWalk,
+) -> Result<bool, Fail>
+    requires { walk.old.problem ≡ problem.now }
+{
+    for (node, from, step) in FIRST_STEPS {
+        if !goes_to(alloc, problem, leads, walk, node)? || down(problem, walk, from) != step {
+            return Ok(false);
+        }
+    }
+    Ok(true)
+}
+
+#[test]
+fn first_steps_of_nodes(rt: HostRuntime) -> Result<(), Fail> {
+    let problem = problem_of(rt.alloc(), &DOUBLES)?;
+    let leads = leads_of(rt.alloc(), &problem)?;
+    let numbers = numbers_of(rt.alloc(), &problem, &leads)?;
+    let mut walk = walk_of(rt.alloc(), &problem, &leads, &numbers)?;
+    assert!(rt; goes_down_from_all(rt.alloc(), &problem, &leads, &mut walk)?);
+    Ok(())
+}

@@ -6,4 +6,4 @@ returns c = numbered (record {
   level = c.levels_list_rows.ensures.level;
   listed = c.no_fewer_leads_lead_home.ensures.listed;
   greatest = c.the_depth_is_greatest.ensures.greatest;
-}) c.a_test_decides_what_is_true.ensures.rows
+})

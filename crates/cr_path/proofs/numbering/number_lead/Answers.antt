@@ -1,11 +1,12 @@
 use Rattle.std.proofs.Common.{◌≡◌, ◌+◌, ◌*◌, ◌∙◌, ℕ, List, [], length, get_or, map, drop, refl, sym, ap, ap₂, subst, arith}
 use Rattle.std.proofs.lemmas.List.{take_rest}
 use Rattle.cr_row.specs.Rows.{product}
-use Rattle.cr_path.specs.Numbers.{NumberParts, lead_from, head_after, brings_home}
+use Rattle.cr_path.specs.Numbers.{lead_from, head_after, brings_home}
 use Rattle.cr_path.specs.Numbering.{HasNumber, AreNumbered}
 use Rattle.cr_path.specs.Leads.{has_first}
+use Rattle.cr_path.specs.Rung.{RungParts}
 use Rattle.cr_path.specs.Begun.{numbers_in}
-use Rattle.cr_path.specs.declared.table.LeadRecord.{LeadRecord}
+use Rattle.cr_path.specs.declared.numbering.RungLead.{RungLead}
 use Rattle.cr_path.proofs.Recorded.{home_told, begun_more}
 use Rattle.cr_path.proofs.numbering.number_lead.Goals as goal
 
@@ -17,19 +18,21 @@ returns-clause-begun c =
     let step = c.args.step in
     let start = c.len-start.result in
     let done = place * length p.leads + step in
-    let old : NumberParts = numbers_in p made in
-    let new : NumberParts = record {
+    let old : RungParts = numbers_in p made in
+    let new : RungParts = record {
       steps = length p.leads;
       heads = c.number.new.rows.rows;
       rows = c.number_rows.new.rows.rows;
       records = c.push.new.self.items;
       numbers = c.number_rows.new.numbers.items;
     } in
-    let lead : LeadRecord = record {
+    let lead : RungLead = record {
       next = c.in_ok-next.next;
-      limit = c.limit.result;
       start = c.in_ok-narrow.field-0;
       end = c.in_ok-narrow-2.field-0;
+      limit = c.limit.result;
+      length = c.length_of.result;
+      twice = c.has_row_twice.result;
     } in
     let head : List ℕ = get_or old.heads place [] in
     let head_is : c.row_at-head.result ≡ head = c.row_at-head.ensures in
@@ -53,5 +56,7 @@ returns-clause-begun c =
       start = omega (arith, c.in_ok-narrow.ensures, from);
       end = omega (arith, c.in_ok-narrow-2.ensures, c.len-2.ensures, c.number_rows.new.numbers.ok.0);
       limit = c.limit.ensures head after_is home_is;
+      counted = c.length_of.ensures.is;
+      twice = c.has_row_twice.ensures;
       records = c.in_ok-push.ensures.items;
     })

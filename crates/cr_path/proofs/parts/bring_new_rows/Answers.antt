@@ -9,22 +9,22 @@ use Rattle.cr_path.proofs.parts.bring_new_rows.Goals as goal
 pub loop-part-init : goal.loop-part-init
 loop-part-init c = record {
   head = c.requires.head;
-  passed = λ rows are. none_passed c.args.problem.now c.args.numbers.now rows c.args.head c.requires.head;
+  passed = λ rows told are. none_passed c.args.problem.now c.args.numbers.now rows c.args.head c.requires.head;
 }
 
 pub returns-in-None : goal.returns-in-None
-returns-in-None c rows are =
+returns-in-None c rows told are =
     let more : c.loop-part._part < c.args.parts = omega (arith, c.loop-part-test.true) in
-    sym (ap not (part_stopped c.args.problem.now c.args.numbers.now rows c.args.head c.loop-part.head c.args.node.now c.loop-part._part (c.loop-part.invariant.passed rows are) c.args.parts more (c.in-None.ensures.passes rows are)))
+    sym (ap not (part_stopped c.args.problem.now c.args.numbers.now rows c.args.head c.loop-part.head c.args.node.now c.loop-part._part (c.loop-part.invariant.passed rows told are) c.args.parts more (c.in-None.ensures.passes rows told are)))
 
 pub loop-part-preserved : goal.loop-part-preserved
 loop-part-preserved c = record {
   head = c.in-Some.ensures.head;
-  passed = λ rows are. part_on c.args.problem.now c.args.numbers.now rows c.args.head c.loop-part.head c.args.node.now c.loop-part._part (c.loop-part.invariant.passed rows are) c.in-Some.last (c.in-Some.ensures.passes rows are);
+  passed = λ rows told are. part_on c.args.problem.now c.args.numbers.now rows c.args.head c.loop-part.head c.args.node.now c.loop-part._part (c.loop-part.invariant.passed rows told are) c.in-Some.last (c.in-Some.ensures.passes rows told are);
 }
 
 pub returns : goal.returns
-returns c rows are =
+returns c rows told are =
     let all : c.loop-part._part ≡ c.args.parts = omega (arith, c.loop-part-test.false) in
     sym (ap (λ n. not (list_any (is_listed rows) (rows_from (get_or c.args.numbers.now.heads c.args.head []) (changes_of_all c.args.problem.now (repeated n c.args.node.now))))) (sym all)
-    ∙ ap not (c.loop-part.invariant.passed rows are).new)
+    ∙ ap not (c.loop-part.invariant.passed rows told are).new)

@@ -8,17 +8,16 @@ use Rattle.cr_path.proofs.parts.pass_part.Goals as goal
 pub loop-step-init : goal.loop-step-init
 loop-step-init c = record {
   head = c.requires.from;
-  passed = λ rows are. none_passed c.args.problem.now c.args.numbers.now rows c.args.from c.requires.from;
+  passed = λ rows told are. none_passed c.args.problem.now c.args.numbers.now rows c.args.from c.requires.from;
 }
 
 pub returns-then-has_some-clause-passes : goal.returns-then-has_some-clause-passes
-returns-then-has_some-clause-passes c rows are =
+returns-then-has_some-clause-passes c rows told are =
     let p = c.args.problem.now in
     let t = c.args.numbers.now in
     let inside : c.loop-step.step-index < length c.args.node.now = omega (arith, c.loop-step-test.true) in
-    let known = found_at p t c.requires.numbered c.loop-step.head (get_or c.args.node.now c.loop-step.step-index 0) c.lead-lead.result c.loop-step.invariant.head.numbered (c.requires.steps c.loop-step.step-index 0 inside) c.lead-lead.ensures in
-    node_stopped p t rows c.args.from c.loop-step.head c.args.node.now c.loop-step.step-index (get_or c.args.node.now c.loop-step.step-index 0) inside refl (c.loop-step.invariant.passed rows are)
-    (lead_stopped p t c.requires.numbered rows c.args.marks.now.marks are c.loop-step.head (get_or c.args.node.now c.loop-step.step-index 0) c.lead-lead.result c.loop-step.invariant.head known c.numbers_of.result.now c.numbers_of.ensures c.has_some.result c.has_some.ensures c.if-has_some.true)
+    node_stopped p t rows c.args.from c.loop-step.head c.args.node.now c.loop-step.step-index (get_or c.args.node.now c.loop-step.step-index 0) inside refl (c.loop-step.invariant.passed rows told are)
+    (lead_stopped p t c.requires.numbered rows c.args.marks.now.marks told are c.loop-step.head (get_or c.args.node.now c.loop-step.step-index 0) c.lead-lead.result c.loop-step.invariant.head (c.requires.steps c.loop-step.step-index 0 inside) c.lead-lead.ensures c.numbers_of.result.now c.numbers_of.ensures c.has_some.result c.has_some.ensures c.if-has_some.true)
 
 pub loop-step-preserved : goal.loop-step-preserved
 loop-step-preserved c =
@@ -28,14 +27,14 @@ loop-step-preserved c =
     let known = found_at p t c.requires.numbered c.loop-step.head (get_or c.args.node.now c.loop-step.step-index 0) c.lead-lead.result c.loop-step.invariant.head.numbered (c.requires.steps c.loop-step.step-index 0 inside) c.lead-lead.ensures in
     record {
       head = next_head p t c.requires.numbered c.loop-step.head (get_or c.args.node.now c.loop-step.step-index 0) c.lead-lead.result c.loop-step.invariant.head known;
-      passed = λ rows are.
-          node_on p t rows c.args.from c.loop-step.head c.args.node.now c.loop-step.step-index (get_or c.args.node.now c.loop-step.step-index 0) inside refl (c.loop-step.invariant.passed rows are) c.lead-lead.result.next
-          (lead_passed p t c.requires.numbered rows c.args.marks.now.marks are c.loop-step.head (get_or c.args.node.now c.loop-step.step-index 0) c.lead-lead.result c.loop-step.invariant.head known c.numbers_of.result.now c.numbers_of.ensures c.has_some.result c.has_some.ensures c.if-has_some.false);
+      passed = λ rows told are.
+          node_on p t rows c.args.from c.loop-step.head c.args.node.now c.loop-step.step-index (get_or c.args.node.now c.loop-step.step-index 0) inside refl (c.loop-step.invariant.passed rows told are) c.lead-lead.result.next
+          (lead_passed p t c.requires.numbered rows c.args.marks.now.marks told are c.loop-step.head (get_or c.args.node.now c.loop-step.step-index 0) c.lead-lead.result c.loop-step.invariant.head (c.requires.steps c.loop-step.step-index 0 inside) c.lead-lead.ensures c.numbers_of.result.now c.numbers_of.ensures c.has_some.result c.has_some.ensures c.if-has_some.false);
     }
 
 pub returns-clause-passes : goal.returns-clause-passes
-returns-clause-passes c rows are =
+returns-clause-passes c rows told are =
     let p = c.args.problem.now in
     subst (λ (word : List ℕ). IsPassed p c.args.numbers.now rows c.args.from (changes_of_all p word) c.loop-step.head)
     (take_all c.loop-step.step-index c.args.node.now (omega (arith, c.loop-step-test.false)))
-    (c.loop-step.invariant.passed rows are)
+    (c.loop-step.invariant.passed rows told are)

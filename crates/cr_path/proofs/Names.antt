@@ -1,0 +1,170 @@
+-- Telling rows and their numbers, one more after another.
+use Rattle.std.proofs.Common.{◌≡◌, ℕ, ◌+◌, ◌<◌, ◌≤◌, Bool, true, false, cond, ◌||◌, nat_eq, List, [], ◌∷◌, ◌++◌, length, get_or, map, take, drop, inl, inr, refl, sym, ap, ap₂, ◌∙◌, subst, arith, eq-eqb, eqb-true, length-append}
+use Rattle.std.specs.Prelude.{All}
+use Rattle.std.specs.List.{list_any}
+use Rattle.std.proofs.lemmas.Bool.{cases_eq, or_right}
+use Rattle.std.proofs.lemmas.List.{append-nil, append_assoc, get_or_append_left, get_or_push, get_or_default, length_push, length-drop, drop_at, drop-append-le, take-append-le, take_all}
+use Rattle.std.proofs.lemmas.List.Elements.{All-append, All-same}
+use Rattle.std.proofs.lemmas.List.Folds.{list_any-append, list_any_at}
+use Rattle.cr_rowset.specs.Pushing.{StandsAt}
+use Rattle.cr_path.specs.Rung.{rung_numbers}
+use Rattle.cr_path.specs.Telling.{AreTelling, AreNamed, IsLike, IsNamed, AreAllNamed}
+use Rattle.cr_path.specs.declared.numbering.RungLead.{RungLead}
+use Rattle.cr_path.specs.declared.table.LeadRecord.{LeadRecord}
+use Rattle.cr_path.proofs.Covering.{holds_among}
+
+-- what is read past the last lead
+abbrev pub no_lead : RungLead
+no_lead = record { next = 0; start = 0; end = 0; limit = 0; length = 0; twice = false }
+
+-- rows that are told stay where more are
+still_at : (rows more : List (List ℕ)) (row : List ℕ) (place : ℕ) → StandsAt rows row place → StandsAt (rows ++ more) row place
+still_at rows more row place stands = record {
+  within = omega (arith, stands.within, length-append rows more);
+  is = get_or_append_left rows more [] place stands.within ∙ stands.is;
+}
+
+-- one row more, told or not
+module _ (rows : List (List ℕ)) (cover : List ℕ) (telling : List (List ℕ)) (places later : List ℕ) (done here : ℕ) (row : List ℕ)
+    (are : AreTelling rows cover telling places done) (here_is : here ≡ length telling) (later_is : later ≡ places ++ here ∷ []) (row_is : row ≡ get_or rows done []) where
+  before : (n : ℕ) → n < done → get_or later n 0 ≡ get_or places n 0
+  before n low = ap (λ (ns : List ℕ). get_or ns n 0) later_is ∙ get_or_append_left places (here ∷ []) 0 n (omega (arith, low, are.long))
+
+  last : get_or later done 0 ≡ length telling
+  last = ap (λ (ns : List ℕ). get_or ns done 0) later_is ∙ get_or_push places here 0 done are.long ∙ here_is
+
+  long_now : length later ≡ done + 1
+  long_now = ap length later_is ∙ length_push places here ∙ ap (λ n. n + 1) are.long
+
+  first_now : get_or later 0 0 ≡ 0
+  first_now = elim (cases_eq done 0) [
+    | inl zero ↦
+        let none : length telling ≡ 0 = elim (cases_eq (length telling) 0) [
+          | inl e ↦ e
+          | inr some ↦ absurd (omega (arith, (are.each 0 (omega (arith, some))).1, zero))
+        ] in
+        ap (λ n. get_or later n 0) (sym zero) ∙ last ∙ none
+    | inr some ↦ before 0 (omega (arith, some)) ∙ are.first (omega (arith, some))
+  ]
+
+  pub telling_more : (is_telling : Bool) → (is_telling ≡ true → get_or cover done 0 ≡ done) → (get_or cover done 0 ≡ done → is_telling ≡ true)
+      → AreTelling rows cover (telling ++ cond is_telling (row ∷ []) []) later (done + 1)
+  telling_more true there back = record {
+    long = long_now;
+    placed = λ n low itself. elim (cases_eq n done) [
+      | inl same ↦ subst (λ k. StandsAt (telling ++ row ∷ []) (get_or rows k []) (get_or later k 0)) (sym same) (subst (StandsAt (telling ++ row ∷ []) (get_or rows done [])) (sym last) (record {
+        within = omega (arith, length_push telling row);
+        is = get_or_push telling row [] (length telling) refl ∙ row_is;
+      }))
+      | inr other ↦
+          let less : n < done = omega (arith, low, other) in
+          subst (StandsAt (telling ++ row ∷ []) (get_or rows n [])) (sym (before n less)) (still_at telling (row ∷ []) (get_or rows n []) (get_or places n 0) (are.placed n less itself))
+    ];
+    each = λ place low. elim (cases_eq place (length telling)) [
+      | inl same ↦ (done, omega arith, there refl, last ∙ sym same)
+      | inr other ↦
+          let old = are.each place (omega (arith, low, other, length_push telling row)) in
+          (old.0, omega (arith, old.1), old.2, before old.0 old.1 ∙ old.3)
+    ];
+    first = λ some. first_now;
+  }
+  telling_more false there back = record {
+    long = long_now;
+    placed = λ n low itself. elim (cases_eq n done) [
+      | inl same ↦ absurd (cc (back (ap (λ k. get_or cover k 0) (sym same) ∙ itself ∙ same)))
+      | inr other ↦
+          let less : n < done = omega (arith, low, other) in
+          subst (StandsAt (telling ++ []) (get_or rows n [])) (sym (before n less)) (still_at telling [] (get_or rows n []) (get_or places n 0) (are.placed n less itself))
+    ];
+    each = λ place low.
+        let old = are.each place (omega (arith, low, length-append telling [])) in
+        (old.0, omega (arith, old.1), old.2, before old.0 old.1 ∙ old.3);
+    first = λ some. first_now;
+  }
+
+-- one name more, unless it is there
+module _ (names more : List ℕ) (name : ℕ) (same : (k : ℕ) → list_any (nat_eq k) more ≡ list_any (nat_eq k) names) where
+  there_again : (k : ℕ) (b : Bool) → nat_eq k name ≡ b → list_any (nat_eq name) more ≡ true → list_any (nat_eq k) names ≡ (list_any (nat_eq k) names || (b || false))
+  there_again k true is there =
+      let among : list_any (nat_eq k) names ≡ true = ap (λ m. list_any (nat_eq m) names) (eqb-true k name is) ∙ sym (same name) ∙ there in
+      among ∙ sym (or_right (list_any (nat_eq k) names) true refl)
+  there_again k false is there = sym (or_none (list_any (nat_eq k) names))
+    where
+      or_none : (a : Bool) → (a || false) ≡ a
+      or_none true = refl
+      or_none false = refl
+
+  once_more : (k : ℕ) (b : Bool) → list_any (nat_eq name) more ≡ b → list_any (nat_eq k) (more ++ cond b [] (name ∷ [])) ≡ list_any (nat_eq k) (names ++ name ∷ [])
+  once_more k true is =
+      ap (list_any (nat_eq k)) (append-nil more) ∙ same k ∙ there_again k (nat_eq k name) refl is ∙ sym (list_any-append (nat_eq k) names (name ∷ []))
+  once_more k false is =
+      list_any-append (nat_eq k) more (name ∷ []) ∙ ap (λ (b : Bool). b || list_any (nat_eq k) (name ∷ [])) (same k) ∙ sym (list_any-append (nat_eq k) names (name ∷ []))
+
+pub named_more : (before names now next : List ℕ) (start name : ℕ) → AreNamed before names now → start ≡ length before
+    → next ≡ now ++ cond (list_any (nat_eq name) (drop start now)) [] (name ∷ []) → AreNamed before (names ++ name ∷ []) next
+named_more before names now next start name are start_is next_is =
+    let mine : drop start now ≡ are.more = ap (drop start) are.joined ∙ drop_at before are.more start (sym start_is) in
+    let last : List ℕ = cond (list_any (nat_eq name) are.more) [] (name ∷ []) in
+    record {
+      more = are.more ++ last;
+      joined = next_is
+          ∙ ap₂ (λ (front ns : List ℕ). front ++ cond (list_any (nat_eq name) ns) [] (name ∷ [])) are.joined mine
+          ∙ append_assoc before are.more last;
+      same = λ k. once_more names are.more name are.same k (list_any (nat_eq name) are.more) refl;
+    }
+
+-- one lead more
+all_among : (P : ℕ → Type 0) (names more : List ℕ) → ((k : ℕ) → list_any (nat_eq k) more ≡ list_any (nat_eq k) names) → All P names → All P more
+all_among P names more same all = λ i d low.
+    let k = get_or more i d in
+    holds_among P names k all (sym (same k) ∙ list_any_at (nat_eq k) more i d low (eq-eqb k k refl))
+
+still_named : (numbers : List ℕ) (name : ℕ → ℕ) (names more later : List ℕ) (rung : RungLead) (lead : LeadRecord) → later ≡ names ++ more
+    → IsNamed numbers name names rung lead → IsNamed numbers name later rung lead
+still_named numbers name names more later rung lead joined is =
+    let from : lead.start ≤ length names = omega (arith, is.within) in
+    let to : lead.count ≤ length (drop lead.start names) = omega (arith, is.within, length-drop lead.start names) in
+    let mine : take lead.count (drop lead.start later) ≡ take lead.count (drop lead.start names) =
+    ap (λ (ns : List ℕ). take lead.count (drop lead.start ns)) joined
+    ∙ ap (take lead.count) (drop-append-le lead.start names more from)
+    ∙ take-append-le lead.count (drop lead.start names) more to in
+    record {
+      like = is.like;
+      within = omega (arith, is.within, ap length joined, length-append names more);
+      same = λ n. ap (list_any (nat_eq n)) mine ∙ is.same n;
+    }
+
+pub all_named_more : (numbers : List ℕ) (name : ℕ → ℕ) (below : ℕ) (rung : List RungLead) (leads next : List LeadRecord) (names later : List ℕ) (done : ℕ) (one : RungLead) (lead : LeadRecord)
+    → AreAllNamed numbers name below rung leads names done → done < length rung → one ≡ get_or rung done one
+    → AreNamed names (map name (rung_numbers numbers one)) later → All (λ n. n < below) (map name (rung_numbers numbers one))
+    → IsLike one lead → lead.start ≡ length names → lead.start + lead.count ≡ length later → next ≡ leads ++ lead ∷ []
+    → AreAllNamed numbers name below rung next later (done + 1)
+all_named_more numbers name below rung leads next names later done one lead are inside one_is added low_names like start_is end_is next_is =
+    let grown : length later ≡ length names + length added.more = ap length added.joined ∙ length-append names added.more in
+    let mine : take lead.count (drop lead.start later) ≡ added.more =
+    ap (λ (ns : List ℕ). take lead.count (drop lead.start ns)) added.joined
+    ∙ ap (take lead.count) (drop_at names added.more lead.start (sym start_is))
+    ∙ take_all lead.count added.more (omega (arith, start_is, end_is, grown)) in
+    let here : IsNamed numbers name later one lead = record {
+      like = like;
+      within = omega (arith, end_is);
+      same = λ n. ap (list_any (nat_eq n)) mine ∙ added.same n;
+    } in
+    record {
+      long = ap length next_is ∙ length_push leads lead ∙ ap (λ n. n + 1) are.long;
+      within = All-same (λ n. n < below) later (names ++ added.more) added.joined
+          (All-append (λ n. n < below) names added.more are.within
+          (all_among (λ n. n < below) (map name (rung_numbers numbers one)) added.more added.same low_names));
+      each = λ i d e low. elim (cases_eq i done) [
+        | inl last ↦
+            let rung_is : get_or rung i d ≡ one = ap (λ n. get_or rung n d) last ∙ get_or_default rung done d one inside ∙ sym one_is in
+            let lead_is : get_or next i e ≡ lead = ap₂ (λ (xs : List LeadRecord) (n : ℕ). get_or xs n e) next_is last ∙ get_or_push leads lead e done are.long in
+            subst (λ (r : RungLead). IsNamed numbers name later r (get_or next i e)) (sym rung_is)
+            (subst (IsNamed numbers name later one) (sym lead_is) here)
+        | inr other ↦
+            let earlier : i < done = omega (arith, low, other) in
+            let lead_is : get_or next i e ≡ get_or leads i e = ap (λ (xs : List LeadRecord). get_or xs i e) next_is ∙ get_or_append_left leads (lead ∷ []) e i (omega (arith, earlier, are.long)) in
+            subst (IsNamed numbers name later (get_or rung i d)) (sym lead_is)
+            (still_named numbers name names added.more later (get_or rung i d) (get_or leads i e) added.joined (are.each i d e earlier))
+      ];
+    }

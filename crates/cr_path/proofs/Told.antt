@@ -1,0 +1,172 @@
+-- Telling rows of leads that were rung are numbers of the problem.
+use Rattle.std.proofs.Common.{◌≡◌, ℕ, ◌+◌, ◌-◌, ◌*◌, ◌<◌, Bool, true, nat_eq, nat_lt, List, [], length, get_or, map, take, drop, refl, sym, ap, ap₂, ◌∙◌, subst, arith, eq-eqb, eqb-true}
+use Rattle.std.specs.Prelude.{All}
+use Rattle.std.specs.List.{list_any}
+use Rattle.std.proofs.lemmas.List.Elements.{All-take, All-drop, All-weaker}
+use Rattle.cr_model.specs.Problems.{ProblemParts}
+use Rattle.cr_model.specs.Levels.{is_listed}
+use Rattle.cr_rowset.specs.Pushing.{StandsAt}
+use Rattle.cr_path.specs.Covers.{CoversItself, IsCovered, StaysWithin, IsCover}
+use Rattle.cr_path.specs.Numbers.{NumberParts, lead_from, IsRecord, IsTold, IsNumbered}
+use Rattle.cr_path.specs.Rung.{RungParts, rung_numbers, IsRungLead, IsRung}
+use Rattle.cr_path.specs.Telling.{AreTelling, name_of, HasName, IsNamed, AreAllNamed}
+use Rattle.cr_path.specs.declared.numbering.RungLead.{RungLead}
+use Rattle.cr_path.specs.declared.table.LeadRecord.{LeadRecord}
+use Rattle.cr_path.proofs.Covering.{both_pass, IsAmong, holds_among, any_from, any_at, among_listed, listed_among}
+use Rattle.cr_path.proofs.Names.{no_lead}
+use Rattle.cr_path.proofs.Places.{record_within}
+
+module _ (p : ProblemParts) (t : RungParts) (rung : IsRung p t) (cover : List ℕ) (covers : IsCover (length t.rows) t.numbers t.records cover)
+    (telling : List (List ℕ)) (places : List ℕ) (told : AreTelling t.rows cover telling places (length t.rows)) where
+  abbrev at : ℕ → List ℕ
+  at n = get_or t.rows n []
+
+  abbrev told_at : ℕ → List ℕ
+  told_at n = get_or telling n []
+
+  abbrev name : ℕ → ℕ
+  name n = name_of cover places n
+
+  -- what covers a row covers itself, and stands at the row's name
+  own : (n : ℕ) → n < length t.rows → CoversItself cover (get_or cover n 0)
+  own n inside = covers.themselves n 0 (omega (arith, inside, covers.long))
+
+  stands : (n : ℕ) → n < length t.rows → StandsAt telling (at (get_or cover n 0)) (name n)
+  stands n inside =
+      let itself : CoversItself cover (get_or cover n 0) = own n inside in
+      told.placed (get_or cover n 0) (omega (arith, itself.0, covers.long)) itself.1
+
+  pub all_have_names : All (HasName cover places (length telling)) t.numbers
+  all_have_names = All-weaker (λ n. n < length t.rows) (HasName cover places (length telling)) (λ n inside.
+      let itself : CoversItself cover (get_or cover n 0) = own n inside in
+      (omega (arith, inside, covers.long), omega (arith, itself.0, covers.long, told.long), (stands n inside).within)) t.numbers rung.within
+
+  -- the numbers of one lead
+  module _ (ns : List ℕ) (within : All (λ n. n < length t.rows) ns) (stays : StaysWithin cover ns) where
+    cover_among : (n : ℕ) → IsAmong n ns → IsAmong (get_or cover n 0) ns
+    cover_among n among = (holds_among (IsCovered cover ns) ns n stays among).1
+
+    inside_of : (n : ℕ) → IsAmong n ns → n < length t.rows
+    inside_of n among = holds_among (λ m. m < length t.rows) ns n within among
+
+    named_from : (k : ℕ) → IsAmong k (map name ns) → (n : ℕ) × IsAmong n ns × (k ≡ name n)
+    named_from k among =
+        let found = any_from (nat_eq k) name ns among in
+        (found.0, found.1, eqb-true k (name found.0) found.2)
+
+    name_among : (n : ℕ) → IsAmong n ns → IsAmong (name n) (map name ns)
+    name_among n among = any_at (nat_eq (name n)) name ns n among (eq-eqb (name n) (name n) refl)
+
+    row_of_name : (n : ℕ) → IsAmong n ns → told_at (name n) ≡ at (get_or cover n 0)
+    row_of_name n among = (stands n (inside_of n among)).is
+
+    -- a telling row stands in the lead where its number is a name there
+    names_listed : (k : ℕ) → k < length telling → list_any (nat_eq k) (map name ns) ≡ is_listed (map at ns) (told_at k)
+    names_listed k inside = both_pass (list_any (nat_eq k) (map name ns)) (is_listed (map at ns) (told_at k))
+        (λ among.
+        let from = named_from k among in
+        subst (λ (row : List ℕ). is_listed (map at ns) row ≡ true) (sym (ap told_at from.2 ∙ row_of_name from.0 from.1))
+        (among_listed t.rows rung.differ ns (get_or cover from.0 0) (cover_among from.0 from.1)))
+        (λ listed.
+        let from = told.each k inside in
+        let row : ℕ = from.0 in
+        let is : told_at k ≡ at row = ap told_at (sym from.3) ∙ (told.placed row from.1 from.2).is in
+        let among : IsAmong row ns = listed_among t.rows rung.differ ns row within from.1 (subst (λ (r : List ℕ). is_listed (map at ns) r ≡ true) is listed) in
+        let same : name row ≡ k = ap (λ n. get_or places n 0) from.2 ∙ from.3 in
+        subst (λ m. IsAmong m (map name ns)) same (name_among row among))
+
+  -- two leads have a row in common where they have a telling row in common
+  module _ (ns ms names : List ℕ) (ns_in : All (λ n. n < length t.rows) ns) (ms_in : All (λ n. n < length t.rows) ms) (ns_stay : StaysWithin cover ns) (ms_stay : StaysWithin cover ms)
+      (same : (k : ℕ) → list_any (nat_eq k) names ≡ list_any (nat_eq k) (map name ns)) where
+    abbrev in_other : List ℕ → Bool
+    in_other row = is_listed (map at ms) row
+
+    names_tell : list_any in_other (map at ns) ≡ list_any in_other (map told_at names)
+    names_tell = both_pass (list_any in_other (map at ns)) (list_any in_other (map told_at names))
+        (λ shared.
+        let found = any_from in_other at ns shared in
+        let n : ℕ = found.0 in
+        let other : IsAmong n ms = listed_among t.rows rung.differ ms n ms_in (inside_of ns ns_in ns_stay n found.1) found.2 in
+        let listed : in_other (at (get_or cover n 0)) ≡ true = among_listed t.rows rung.differ ms (get_or cover n 0) (cover_among ms ms_in ms_stay n other) in
+        any_at in_other told_at names (name n) (same (name n) ∙ name_among ns ns_in ns_stay n found.1)
+        (ap in_other (row_of_name ns ns_in ns_stay n found.1) ∙ listed))
+        (λ shared.
+        let found = any_from in_other told_at names shared in
+        let from = named_from ns ns_in ns_stay found.0 (sym (same found.0) ∙ found.1) in
+        let n : ℕ = from.0 in
+        any_at in_other at ns (get_or cover n 0) (cover_among ns ns_in ns_stay n from.1)
+        (ap in_other (sym (ap told_at from.2 ∙ row_of_name ns ns_in ns_stay n from.1)) ∙ found.2))
+
+  module _ (records : List LeadRecord) (names : List ℕ) (named : AreAllNamed t.numbers name (length telling) t.records records names (length t.records)) where
+    abbrev whole : NumberParts
+    whole = record { steps = t.steps; heads = t.heads; rows = telling; records = records; numbers = names }
+
+    -- the lead of a step from a head
+    module _ (head step : ℕ) (head_in : head < length t.heads) (step_in : step < t.steps) where
+      abbrev place : ℕ
+      place = head * t.steps + step
+
+      low : place < length t.records
+      low = omega (arith, rung.recorded, record_within head step (length t.heads) t.steps head_in step_in)
+
+      abbrev lead_rung : RungLead
+      lead_rung = get_or t.records place no_lead
+
+      abbrev lead_numbers : List ℕ
+      lead_numbers = rung_numbers t.numbers lead_rung
+
+      numbers_in : All (λ n. n < length t.rows) lead_numbers
+      numbers_in = All-take (λ n. n < length t.rows) (lead_rung.end - lead_rung.start) (drop lead_rung.start t.numbers)
+          (All-drop (λ n. n < length t.rows) lead_rung.start t.numbers rung.within)
+
+      numbers_stay : StaysWithin cover lead_numbers
+      numbers_stay = covers.stays place no_lead low
+
+      is_rung : IsRungLead p t (get_or t.heads head []) step lead_rung
+      is_rung = rung.each head step no_lead head_in step_in
+
+      module _ (d : LeadRecord) where
+        abbrev lead : LeadRecord
+        lead = get_or records place d
+
+        is_named : IsNamed t.numbers name names lead_rung lead
+        is_named = named.each place no_lead d low
+
+        is_record : IsRecord p whole (get_or t.heads head []) step lead
+        is_record = record {
+          next = omega (arith, is_named.like.next, is_rung.next);
+          leads_to = ap (λ n. get_or t.heads n []) is_named.like.next ∙ is_rung.leads_to;
+          limit = λ changes. ap (nat_lt changes) is_named.like.limit ∙ is_rung.limit changes;
+          long = is_named.like.long ∙ is_rung.long;
+          twice = is_named.like.twice ∙ is_rung.twice;
+          within = is_named.within;
+          are = λ k inside. is_named.same k ∙ names_listed lead_numbers numbers_in numbers_stay k inside
+              ∙ ap (λ (rows : List (List ℕ)). is_listed rows (told_at k)) is_rung.are;
+        }
+
+    lead_told : (head step : ℕ) → head < length t.heads → step < t.steps → IsTold p whole (lead_from p (get_or t.heads head []) step)
+    lead_told head step head_in step_in = λ other its d other_in its_in.
+        let mine : map at (lead_numbers head step head_in step_in) ≡ lead_from p (get_or t.heads head []) step = (is_rung head step head_in step_in).are in
+        let theirs : map at (lead_numbers other its other_in its_in) ≡ lead_from p (get_or t.heads other []) its = (is_rung other its other_in its_in).are in
+        let one = lead other its other_in its_in d in
+        let names_now : List ℕ = take one.count (drop one.start names) in
+        ap₂ (λ (rows more : List (List ℕ)). list_any (is_listed rows) more) (sym mine) (sym theirs)
+        ∙ names_tell (lead_numbers other its other_in its_in) (lead_numbers head step head_in step_in) names_now
+        (numbers_in other its other_in its_in) (numbers_in head step head_in step_in) (numbers_stay other its other_in its_in) (numbers_stay head step head_in step_in)
+        (is_named other its other_in its_in d).same
+        ∙ ap (λ (rows : List (List ℕ)). list_any (is_listed rows) (map told_at names_now)) mine
+
+    pub told_whole : IsNumbered p whole
+    told_whole =
+        let first = told.placed 0 rung.some_row covers.first.1 in
+        let place : get_or places 0 0 ≡ 0 = told.first rung.some_row in
+        record {
+          counted = rung.counted;
+          some_head = rung.some_head;
+          first_head = rung.first_head;
+          some_row = omega (arith, first.within, place);
+          first_row = ap told_at (sym place) ∙ first.is ∙ rung.first_row;
+          within = named.within;
+          each = λ head step d head_in step_in. is_record head step head_in step_in d;
+          told = lead_told;
+        }

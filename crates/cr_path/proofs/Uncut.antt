@@ -1,0 +1,39 @@
+-- The steps by which the children of a node are not cut.
+use Rattle.std.proofs.Common.{◌≡◌, ◌≢◌, ℕ, ◌+◌, ◌<◌, ◌≤◌, true, false, not, List, length, sym, ◌∙◌, subst, inl, inr, arith}
+use Rattle.std.proofs.lemmas.Bool.{cases_eq, not-true, not-false}
+use Rattle.cr_model.specs.Problems.{ProblemParts}
+use Rattle.cr_model.specs.Sizes.{most_rows, child}
+use Rattle.cr_model.specs.Sound.{IsSound, sound_steps}
+use Rattle.cr_path.specs.Living.{is_cut, AreCut, IsFirst}
+use Rattle.cr_path.specs.Sets.{has_step, AreUncut, AreSeen}
+
+pub few_steps : (p : ProblemParts) → IsSound p → length p.leads ≤ 24
+few_steps p sound = sound_steps p sound
+
+-- one step more
+pub seen_more : (p : ProblemParts) (node : List ℕ) (end set more : ℕ) → AreSeen p node end set → end < 31 → has_step more end ≡ not (is_cut p most_rows (child node end))
+    → ((other : ℕ) → other ≢ end → has_step more other ≡ has_step set other) → AreSeen p node (end + 1) more
+seen_more p node end set more are low here others = record {
+  known = others 31 (λ same. absurd (omega (arith, same, low))) ∙ are.known;
+  seen = λ step below. elim (cases_eq step end) [
+    | inl same ↦ subst (λ (s : ℕ). has_step more s ≡ not (is_cut p most_rows (child node s))) (sym same) here
+    | inr other ↦ others step other ∙ are.seen step (omega (arith, below, other))
+  ];
+  free = λ step high below. others step (λ same. absurd (omega (arith, same, high))) ∙ are.free step (omega (arith, high)) below;
+}
+
+module _ (p : ProblemParts) (node : List ℕ) (set from step : ℕ) (are : AreUncut p node set) (least : (s : ℕ) → from ≤ s → s < step → has_step set s ≡ false) where
+  cut_before : (end : ℕ) → end ≤ step → end ≤ length p.leads → AreCut p most_rows node from end
+  cut_before end low within s high below =
+      not-false (is_cut p most_rows (child node s)) (sym (are.each s (omega (arith, below, within))) ∙ least s high (omega (arith, below, low)))
+
+  pub none_uncut : length p.leads ≤ step → AreCut p most_rows node from (length p.leads)
+  none_uncut beyond = cut_before (length p.leads) beyond (omega arith)
+
+  pub first_found : from ≤ step → step < length p.leads → has_step set step ≡ true → IsFirst p most_rows node from step
+  first_found high known is = record {
+    from_on = high;
+    known = known;
+    uncut = not-true (is_cut p most_rows (child node step)) (sym (are.each step known) ∙ is);
+    before = cut_before step (omega arith) (omega (arith, known));
+  }

@@ -1,0 +1,20 @@
+use Rattle.std.proofs.Common.{◌≤◌, ◌∙◌, ap, subst, arith}
+use Rattle.cr_model.specs.Callings.{length_of}
+use Rattle.cr_path.specs.Walks.{PathParts, room_of}
+use Rattle.cr_path.proofs.Children.{part_few}
+use Rattle.cr_path.proofs.path.Path.length.Goals as goal
+
+pub returns-clause-is : goal.returns-clause-is
+returns-clause-is c =
+    c.from.ensures ∙ (c.last.ensures c.self.inside.problem.now c.self.inside.numbers.now c.self.inside.steps c.self.invariant.ends).long
+    ∙ ap (λ (w : PathParts). length_of w.problem w.node) c.self.view_is
+
+pub returns-clause-within : goal.returns-clause-within
+returns-clause-within c =
+    let long = (c.last.ensures c.self.inside.problem.now c.self.inside.numbers.now c.self.inside.steps c.self.invariant.ends).long in
+    subst (λ (w : PathParts). c.from.result ≤ room_of w.problem) c.self.view_is (omega (arith, c.from.ensures, long, c.self.invariant.valid.short))
+
+pub returns-clause-few : goal.returns-clause-few
+returns-clause-few c =
+    let long = (c.last.ensures c.self.inside.problem.now c.self.inside.numbers.now c.self.inside.steps c.self.invariant.ends).long in
+    omega (arith, c.from.ensures, long, c.self.invariant.valid.short, part_few c.self.inside.problem.now c.self.invariant.sound)

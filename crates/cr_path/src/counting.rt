@@ -1,0 +1,135 @@
+//! What is counted of a node, where the query asks for it.
+
+ghost use Rattle.std.specs.Prelude.{◌≡◌, ◌<◌, ◌↔◌, ℕ, List, true, false, not, nat_eq, [], length, IsTrue, IfOk, IfSome};
+ghost use Rattle.cr_model.specs.OneTurn.{touch_of};
+ghost use Rattle.cr_model.specs.Problems.{ProblemParts};
+ghost use Rattle.cr_model.specs.Sizes.{child};
+ghost use Rattle.cr_query.specs.Meeting.{MeetsCounts, MeetsMethodCounts};
+ghost use Rattle.cr_query.specs.Meters.{parent, is_hopeless_by_leads};
+ghost use Rattle.cr_path.specs.Counted.{AsksNothing, IsCounted, CanCount};
+ghost use Rattle.cr_path.specs.Living.{is_hopeless};
+
+use crate::table::NumberTable;
+use cr_leads::LeadTable;
+use cr_model::{Problem, Query};
+use cr_query::Meter;
+use cr_row::NoMemory;
+use std::alloc::Global;
+
+/// What is counted of a node. Where the query asks for nothing that is counted, each call is next to nothing.
+#[derive(Drop)]
+pub struct Counting {
+    // None where nothing is asked.
+    pub meter: Option<Meter>,
+    // Whether there are patterns.
+    pub patterns: bool,
+}
+
+impl Counting {
+    /// What is counted of the node of no steps. All memory is taken here. Err where no memory is left.
+    pub fn new(alloc: Global, problem: &Problem) -> Result<Counting, NoMemory>
+        ensures { IfOk result (λ counting. IsCounted problem.now [] counting) }
+    {
+        let query = problem.query();
+        let patterns = has_patterns(query);
+        if asks_nothing(query) {
+            return Ok(Counting {
+                meter: None,
+                patterns,
+            });
+        }
+        let meter = Meter::new(alloc, problem)?;
+        Ok(Counting {
+            meter: Some(meter),
+            patterns,
+        })
+    }
+
+    /// Goes to the node with this step more, which is rung from the head with this number.
+    pub fn add_lead(&mut self, leads: &LeadTable, numbers: &NumberTable, head: u32, step: u8)
+        requires head { head < length numbers.now.heads }
+        requires few { IfSome self.old.meter (λ meter. length meter.node < 1024) }
+        requires step { IfSome self.old.meter (λ meter. step < length meter.problem.leads) }
+        requires from { IfSome self.old.meter (λ meter. CanCount leads.now numbers.now head meter.node meter) }
+        ensures { (p : ProblemParts) (node : List ℕ) → IsCounted p node self.old → IsCounted p (child node step) self.new }
+    {
+        if let Some(meter) = &mut self.meter {
+            meter.add_lead(leads, step, &numbers.head_at(head));
+        }
+    }
+
+    /// Goes back to the node without its last step, which is this one and was rung from the head with this number.
+    pub fn take_back(&mut self, leads: &LeadTable, numbers: &NumberTable, head: u32, step: u8)
+        requires head { head < length numbers.now.heads }
+        requires last { IfSome self.old.meter (λ meter. meter.node ≡ child (parent meter.node) step) }
+        requires from { IfSome self.old.meter (λ meter. CanCount leads.now numbers.now head (parent meter.node) meter) }
+        ensures { (p : ProblemParts) (node : List ℕ) → IsCounted p node self.old → IsCounted p (parent node) self.new }
+    {
+        if let Some(meter) = &mut self.meter {
+            meter.take_back(leads, step, &numbers.head_at(head));
+        }
+    }
+
+    /// Whether the node with this step more has too many or too few leads for the query.
+    pub fn is_hopeless_with(&self, step: u8) -> bool
+        requires { IfSome self.now.meter (λ meter. step < length meter.problem.leads) }
+        ensures { (p : ProblemParts) (node : List ℕ) → IsCounted p node self.now → result ≡ is_hopeless_by_leads p (child node step) }
+    {
+        match &self.meter {
+            Some(meter) => is_hopeless_by_leads(meter, step),
+            None => false,
+        }
+    }
+
+    /// Whether the node, which is not hopeless by its leads, has too many or too few rows that fit a pattern.
+    pub fn is_hopeless(&self) -> bool
+        ensures { (p : ProblemParts) (node : List ℕ) → IsCounted p node self.now → is_hopeless_by_leads p node ≡ false
+            → result ≡ is_hopeless p node }
+    {
+        if !self.patterns {
+            return false;
+        }
+        match &self.meter {
+            Some(meter) => meter.hopeless().is_some(),
+            None => false,
+        }
+    }
+
+    /// Whether the node's touch meets each count of marks and of methods.
+    pub fn meets_counts(&self) -> bool
+        ensures { (p : ProblemParts) (node : List ℕ) → IsCounted p node self.now
+            → IsTrue result ↔ (MeetsCounts p (touch_of p node) × MeetsMethodCounts p (touch_of p node)) }
+    {
+        match &self.meter {
+            Some(meter) => meter.meets_counts(),
+            None => true,
+        }
+    }
+}
+
+// Whether the node of a meter with this step more has too many or too few leads. It stays a call, so that the loop over
+// the children of a node is short where nothing is asked.
+#[inline(never)]
+fn is_hopeless_by_leads(meter: &Meter, step: u8) -> bool
+    requires { step < length meter.now.problem.leads }
+    ensures { result ≡ is_hopeless_by_leads meter.now.problem (child meter.now.node step) }
+{
+    meter.is_hopeless_with(step)
+}
+
+// Whether the query has no counts, no patterns and no limits on changes of method.
+fn asks_nothing(query: &Query) -> bool
+    ensures { result ≡ true → AsksNothing query.now }
+{
+    query.counts.is_empty()
+        && query.method_counts.is_empty()
+        && !has_patterns(query)
+        && query.com.is_none()
+}
+
+// Whether the query has patterns.
+fn has_patterns(query: &Query) -> bool
+    ensures { result ≡ not (nat_eq (length query.now.patterns) 0) }
+{
+    !query.patterns.is_empty()
+}

@@ -1,0 +1,424 @@
+//! The path of a walk: what is kept of a node of a problem whose lead heads and rows are numbered.
+
+ghost use Rattle.std.specs.Prelude.{◌≡◌, ◌-◌, ◌<◌, ◌≤◌, ◌↔◌, ℕ, true, false, not, [], ◌∷◌, length, find, take, is_none, MatchBool, IsTrue, IfOk, IfNone, IfSome};
+ghost use Rattle.std.specs.List.{range_with_len};
+ghost use Rattle.cr_row.specs.Rows.{rounds};
+ghost use Rattle.cr_model.specs.Callings.{rows_of, length_of, head_of, HasSteps};
+ghost use Rattle.cr_model.specs.Dead.{dead, is_turned_back};
+ghost use Rattle.cr_model.specs.Decided.{rows_differ};
+ghost use Rattle.cr_model.specs.Nodes.{IsValid};
+ghost use Rattle.cr_model.specs.OneTurn.{touch_of};
+ghost use Rattle.cr_model.specs.Sizes.{most_rows, child};
+ghost use Rattle.cr_model.specs.Turning.{IsLeastRotation};
+ghost use Rattle.cr_leads.specs.Tables.{lead_table};
+ghost use Rattle.cr_query.specs.Meeting.{MeetsCounts, MeetsMethodCounts};
+ghost use Rattle.cr_query.specs.Meters.{is_hopeless_by_leads};
+ghost use Rattle.cr_path.specs.Ends.{IsEnd};
+ghost use Rattle.cr_path.specs.Living.{is_clean, is_cut, is_hopeless, is_live, IsFirstUncut};
+ghost use Rattle.cr_path.specs.Marks.{IsLead};
+ghost use Rattle.cr_path.specs.Numbers.{IsNumbered, IsRecord};
+ghost use Rattle.cr_path.specs.Sets.{is_known, AreUncut};
+ghost use Rattle.cr_path.specs.Walks.{path_from, parent, room_of};
+
+use crate::counting::Counting;
+use crate::ends::{Ends, LeadEnd};
+use crate::marks::Marks;
+use crate::parts::{bring_new_rows, parts_to_try};
+use crate::sets::{is_known, least_from, no_steps, with_step};
+use crate::table::{LeadRecord, NumberTable};
+use cr_leads::LeadTable;
+use cr_model::Problem;
+use cr_query::laws::what_is_hopeless_by_leads_is_hopeless;
+use cr_query::turn_free;
+use cr_rotate::Period;
+use cr_row::{NoMemory, Row};
+use std::alloc::Global;
+use std::marker::Model;
+
+/// The node of a walk, with what is known of it.
+///
+/// It is seen as the problem, the numbers and the node.
+#[derive(Drop)]
+pub struct Path<'a> {
+    problem: &'a Problem,
+    leads: &'a LeadTable,
+    numbers: &'a NumberTable,
+    // The node.
+    steps: Period,
+    ends: Ends,
+    // The telling rows of the first leads, of as many as bring no row again.
+    marks: Marks,
+    counting: Counting,
+    // Whether all rotations of a calling meet the query, or none.
+    turn_free: bool,
+}
+
+impl<'a> Model for Path<'a> {
+    ghost use Rattle.cr_path.specs.Walks.{PathParts, path_from, IsWalk};
+
+    ghost Value = { PathParts };
+
+    ghost view = { λ w. path_from w.problem.now w.numbers.now w.steps };
+
+    ghost invariant = { λ w. IsWalk w.problem.now w.leads.now w.numbers.now w.steps w.ends w.marks.marks w.marks.fresh w.counting w.turn_free };
+}
+
+impl<'a> Path<'a> {
+    /// The path at the node of no steps. All memory is taken here. Err where no memory is left.
+    pub fn new(
+        alloc: Global,
+        problem: &'a Problem,
+        leads: &'a LeadTable,
+        numbers: &'a NumberTable,
+    ) -> Result<Path<'a>, NoMemory>
+        requires leads { leads.now ≡ lead_table problem.now }
+        requires numbers { IsNumbered problem.now numbers.now }
+        ensures { IfOk result (λ path. path ≡ path_from problem.now numbers.now []) }
+    {
+        let steps = Period::new(alloc)?;
+        let ends = Ends::new(alloc)?;
+        let marks = Marks::new(alloc, numbers.row_count())?;
+        let counting = Counting::new(alloc, problem)?;
+        Ok(Path {
+            problem,
+            leads,
+            numbers,
+            steps,
+            ends,
+            marks,
+            counting,
+            turn_free: turn_free(problem.query()),
+        })
+    }
+
+    /// Goes to the child with the least step from this one on that is not dead, and gives the step. None where there
+    /// is no such child: the walk stays then. It takes no memory.
+    pub fn go_down(&mut self, from: u8) -> Option<u8>
+        requires valid { IsValid self.old.problem self.old.node }
+        requires from { from ≤ length self.old.problem.leads }
+        ensures step { result ≡ find (λ step. is_none (dead self.old.problem most_rows (child self.old.node step)))
+            (range_with_len from (length self.old.problem.leads - from)) }
+        ensures stays { IfNone result (self.new ≡ self.old) }
+        ensures goes { IfSome result (λ step. self.new ≡ path_from self.old.problem self.old.numbers (child self.old.node step)) }
+    {
+        what_is_hopeless_by_leads_is_hopeless();
+        // A problem keeps all of its checks, so that there are few steps.
+        let _ = self.problem.stage();
+        if !self.is_clean() {
+            return None;
+        }
+        let mut next = from;
+        while let Some(step) = self.first_uncut(next) {
+            if self.goes_live(step) {
+                return Some(step);
+            }
+            next = step + 1;
+        }
+        None
+    }
+
+    /// Goes back to the node without the last step, and gives that step. It takes no memory.
+    pub fn go_up(&mut self) -> u8
+        requires { 0 < length self.old.node }
+        ensures problem { self.new.problem ≡ self.old.problem }
+        ensures node { self.old.node ≡ child self.new.node result }
+    {
+        let steps = self.steps.steps();
+        let step = steps[steps.len() - 1];
+        self.back();
+        step
+    }
+
+    /// Goes to a node. It does not leave the steps with which both begin, and takes no memory.
+    pub fn go_to(&mut self, node: &[u8])
+        requires valid { IsValid self.old.problem node.now }
+        ensures { self.new ≡ path_from self.old.problem self.old.numbers node.now }
+    {
+        let front = common_front(self.steps.steps(), node);
+        self.go_back_to(front);
+        for index in front..node.len() {
+            self.go_on(node[index]);
+        }
+    }
+
+    /// The steps of the node.
+    pub fn steps(&self) -> &[u8]
+        ensures is { result.now ≡ self.now.node }
+        ensures few { length self.now.node ≤ 1024 }
+        ensures known { HasSteps self.now.problem self.now.node }
+        ensures valid { IsValid self.now.problem self.now.node }
+    {
+        self.steps.steps()
+    }
+
+    /// The last row of the node, or rounds where it has no steps.
+    pub fn head(&self) -> Row
+        ensures is { result ≡ head_of self.now.problem self.now.node }
+        ensures same_stage { length result ≡ self.now.problem.stage }
+    {
+        self.numbers.head_at(self.ends.last().head)
+    }
+
+    /// The number of rows of the node.
+    pub fn length(&self) -> u64
+        ensures is { result ≡ length_of self.now.problem self.now.node }
+        ensures within { result ≤ room_of self.now.problem }
+        ensures few { result ≤ 12128 }
+    {
+        u64::from(self.ends.last().rung)
+    }
+
+    /// Whether a row of the node stands twice.
+    pub fn has_repeat(&self) -> bool
+        ensures { result ≡ not (rows_differ (rows_of self.now.problem self.now.node)) }
+    {
+        self.marks.fresh() != self.steps.steps().len()
+    }
+
+    /// Whether all rows of the node's touch differ, where those of the node do and the touch comes home. It takes no
+    /// memory, looks at half of the parts, and stops at the first lead that brings a row of the node again.
+    pub fn parts_differ(&self) -> bool
+        requires fresh { rows_differ (rows_of self.now.problem self.now.node) ≡ true }
+        requires home { head_of self.now.problem (touch_of self.now.problem self.now.node) ≡ rounds self.now.problem.stage }
+        ensures { result ≡ rows_differ (rows_of self.now.problem (touch_of self.now.problem self.now.node)) }
+    {
+        let head = self.ends.last().head;
+        let parts = parts_to_try(self.problem);
+        bring_new_rows(
+            self.problem,
+            self.numbers,
+            &self.marks,
+            self.steps.steps(),
+            head,
+            parts,
+        )
+    }
+
+    /// Whether no rotation of the node is less than it.
+    pub fn is_least(&self) -> bool
+        ensures { IsTrue result ↔ IsLeastRotation self.now.node }
+    {
+        self.steps.is_least()
+    }
+
+    /// Whether the node's touch, which is so many times the node as the query has parts, meets each count of marks
+    /// and of methods.
+    pub fn meets_counts(&self) -> bool
+        ensures { IsTrue result ↔ (MeetsCounts self.now.problem (touch_of self.now.problem self.now.node)
+            × MeetsMethodCounts self.now.problem (touch_of self.now.problem self.now.node)) }
+    {
+        self.counting.meets_counts()
+    }
+
+    // Whether no row of the node stands twice, and none is rounds.
+    fn is_clean(&self) -> bool
+        ensures { result ≡ is_clean self.now.problem self.now.node }
+    {
+        !self.has_repeat() && !self.marks.has_first()
+    }
+
+    // The least step from this one on by which the child of a clean node is not cut.
+    fn first_uncut(&mut self, from: u8) -> Option<u8>
+        requires clean { is_clean self.old.problem self.old.node ≡ true }
+        requires from { from ≤ length self.old.problem.leads }
+        ensures first { IsFirstUncut self.old.problem most_rows self.old.node from result }
+        ensures same { self.new ≡ self.old }
+    {
+        let count = self.step_count();
+        let uncut = self.uncut_children();
+        let step = least_from(uncut, from);
+        if step >= count {
+            return None;
+        }
+        Some(step)
+    }
+
+    // The known set of steps by which the children of a clean node are not cut. It is found once.
+    fn uncut_children(&mut self) -> u32
+        requires { is_clean self.old.problem self.old.node ≡ true }
+        ensures known { is_known result ≡ true }
+        ensures are { AreUncut self.old.problem self.old.node result }
+        ensures same { self.new ≡ self.old }
+    {
+        let end = self.last_end();
+        if is_known(end.uncut) {
+            return end.uncut;
+        }
+        let uncut = self.find_uncut(end);
+        self.ends.keep_uncut(uncut);
+        uncut
+    }
+
+    // The same, found by looking at each child.
+    fn find_uncut(&self, end: LeadEnd) -> u32
+        requires clean { is_clean self.now.problem self.now.node ≡ true }
+        requires end { IsEnd self.now.problem self.now.numbers self.now.node end }
+        ensures known { is_known result ≡ true }
+        ensures are { AreUncut self.now.problem self.now.node result }
+    {
+        let mut uncut = no_steps();
+        for step in 0..self.step_count() {
+            let lead = self.lead_after(end, step);
+            uncut = with_step(uncut, step, !self.is_cut(end, step, lead));
+        }
+        uncut
+    }
+
+    // The number of steps of the problem.
+    fn step_count(&self) -> u8
+        ensures is { result ≡ length self.now.problem.leads }
+        ensures few { result ≤ 24 }
+    {
+        // A problem keeps all of its checks.
+        let _ = self.problem.stage();
+        self.leads.count()
+    }
+
+    // Where the node ends.
+    fn last_end(&self) -> LeadEnd
+        ensures { IsEnd self.now.problem self.now.numbers self.now.node result }
+    {
+        self.ends.last()
+    }
+
+    // The record of a step that is rung where the node ends.
+    fn lead_after(&self, end: LeadEnd, step: u8) -> LeadRecord
+        requires end { IsEnd self.now.problem self.now.numbers self.now.node end }
+        requires step { step < length self.now.problem.leads }
+        ensures { IsLead self.now.problem self.now.numbers self.now.node step result }
+    {
+        self.numbers.lead(end.head, step)
+    }
+
+    // Whether the child of a clean node by a step is dead, but for rows that fit patterns.
+    fn is_cut(&self, end: LeadEnd, step: u8, lead: LeadRecord) -> bool
+        requires clean { is_clean self.now.problem self.now.node ≡ true }
+        requires end { IsEnd self.now.problem self.now.numbers self.now.node end }
+        requires step { step < length self.now.problem.leads }
+        requires lead { IsLead self.now.problem self.now.numbers self.now.node step lead }
+        ensures { result ≡ is_cut self.now.problem most_rows (child self.now.node step) }
+    {
+        // Nothing is left out, which takes less time than to leave early.
+        let is_late = end.rung >= u32::from(lead.limit);
+        let is_again = self.marks.has_some(self.numbers.numbers_of(lead));
+        let is_turned = self.is_turned_back(step);
+        is_late | is_again | is_turned || self.counting.is_hopeless_with(step)
+    }
+
+    // Whether the child by a step turns back, if the query is the same for all rotations.
+    fn is_turned_back(&self, step: u8) -> bool
+        ensures { result ≡ is_turned_back self.now.problem (child self.now.node step) }
+    {
+        self.turn_free && self.steps.turns_back_with(step)
+    }
+
+    // Goes to the child by a step, which is not cut, if it is not dead, and says so.
+    fn goes_live(&mut self, step: u8) -> bool
+        requires step { step < length self.old.problem.leads }
+        requires uncut { is_cut self.old.problem most_rows (child self.old.node step) ≡ false }
+        ensures live { result ≡ is_live self.old.problem most_rows self.old.node step }
+        ensures path { MatchBool result (self.new ≡ path_from self.old.problem self.old.numbers (child self.old.node step)) (self.new ≡ self.old) }
+    {
+        what_is_hopeless_by_leads_is_hopeless();
+        // A problem keeps all of its checks.
+        let _ = self.problem.stage();
+        let lead = self.lead_after(self.last_end(), step);
+        self.go(step, lead, true);
+        if self.is_hopeless() {
+            self.back();
+            return false;
+        }
+        true
+    }
+
+    // Whether the node, which is not hopeless by its leads, has too many or too few rows that fit a pattern.
+    fn is_hopeless(&self) -> bool
+        requires { is_hopeless_by_leads self.now.problem self.now.node ≡ false }
+        ensures { result ≡ is_hopeless self.now.problem self.now.node }
+    {
+        self.counting.is_hopeless()
+    }
+
+    // Goes to the child by a step, where that may have a row twice.
+    fn go_on(&mut self, step: u8)
+        requires few { length self.old.node < 1024 }
+        requires valid { IsValid self.old.problem (child self.old.node step) }
+        ensures { self.new ≡ path_from self.old.problem self.old.numbers (child self.old.node step) }
+    {
+        let lead = self.lead_after(self.last_end(), step);
+        let is_new = self.brings_new_rows(step, lead);
+        self.go(step, lead, is_new);
+    }
+
+    // Whether the rows of the child by a step differ.
+    fn brings_new_rows(&self, step: u8, lead: LeadRecord) -> bool
+        requires { IsLead self.now.problem self.now.numbers self.now.node step lead }
+        ensures { result ≡ rows_differ (rows_of self.now.problem (child self.now.node step)) }
+    {
+        if self.has_repeat() {
+            return false;
+        }
+        !lead.twice && !self.marks.has_some(self.numbers.numbers_of(lead))
+    }
+
+    // Goes to the child by a step, of whose rows it is known whether they differ.
+    fn go(&mut self, step: u8, lead: LeadRecord, is_new: bool)
+        requires few { length self.old.node < 1024 }
+        requires valid { IsValid self.old.problem (child self.old.node step) }
+        requires lead { IsRecord self.old.problem self.old.numbers (head_of self.old.problem self.old.node) step lead }
+        requires new { is_new ≡ rows_differ (rows_of self.old.problem (child self.old.node step)) }
+        ensures { self.new ≡ path_from self.old.problem self.old.numbers (child self.old.node step) }
+    {
+        let end = self.ends.last();
+        self.marks.add(self.numbers.numbers_of(lead), is_new);
+        self.counting
+            .add_lead(self.leads, self.numbers, end.head, step);
+        self.ends.push(LeadEnd {
+            head: lead.next,
+            rung: end.rung + u32::from(lead.length),
+            uncut: 0,
+        });
+        self.steps.push(step);
+    }
+
+    // Goes back to the node without the last step.
+    fn back(&mut self)
+        requires { 0 < length self.old.node }
+        ensures { self.new ≡ path_from self.old.problem self.old.numbers (parent self.old.node) }
+    {
+        let number = self.steps.steps().len();
+        let step = self.steps.steps()[number - 1];
+        self.ends.pop();
+        let end = self.ends.last();
+        let lead = self.numbers.lead(end.head, step);
+        self.marks.take_back(number, self.numbers.numbers_of(lead));
+        self.counting
+            .take_back(self.leads, self.numbers, end.head, step);
+        self.steps.pop();
+    }
+
+    // Goes back to so many steps.
+    fn go_back_to(&mut self, number: usize)
+        requires { number ≤ length self.old.node }
+        ensures { self.new ≡ path_from self.old.problem self.old.numbers (take number self.old.node) }
+    {
+        while self.steps().len() > number {
+            self.back();
+        }
+    }
+}
+
+// With how many steps both begin.
+fn common_front(node: &[u8], other: &[u8]) -> usize
+    ensures within { result ≤ length node.now }
+    ensures inside { result ≤ length other.now }
+    ensures same { take result node.now ≡ take result other.now }
+{
+    let number = node.len().min(other.len());
+    for index in 0..number {
+        if node[index] != other[index] {
+            return index;
+        }
+    }
+    number
+}
