@@ -54,8 +54,8 @@ fn may_be_kept<W: Standing>(problem: &Problem, walk: &W) -> bool
     requires { W.problem_of walk.now ≡ problem.now }
     ensures { IsTrue result ↔ MayBeKept problem.now (W.node_of walk.now) }
 {
-    comes_home(problem, walk.steps(), walk.head())
-        && is_long_enough(problem, walk.length())
+    is_long_enough(problem, walk.length())
+        && comes_home(problem, walk.steps(), walk.head())
         && meets_counts(problem, walk)
         && is_least_if_asked(problem, walk)
 }

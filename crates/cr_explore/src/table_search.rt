@@ -15,7 +15,8 @@ use std::marker::Model;
 /// The search of a problem that has a falseness table of its leads.
 ///
 /// It looks up rows by their numbers, where those have room. Where they have none it asks the table whether two leads
-/// share a row, if leads are long and touches have few of them, and else it rings each lead, which is faster then.
+/// share a row, if leads are long, touches have few of them and there are few steps, and else it rings each lead, which
+/// is faster then.
 ///
 /// It is seen as the problem.
 #[derive(Drop)]
@@ -82,11 +83,10 @@ impl Explorer for TableSearch {
     }
 }
 
-// How many rows are rung in the time that the table takes to be asked of one earlier lead.
-const ROWS_AN_ANSWER: u64 = 4;
-
-// Whether asking a table of each earlier lead of a part takes less time than ringing one more.
+// Whether asking the table takes less time than ringing, as it was measured: where a part has few leads, these are long,
+// and there are few steps, so that the sets of all pairs of steps stay near.
 fn is_faster_with_table(problem: &Problem) -> bool {
     let shortest = problem.shortest().max(1);
-    problem.part_cap() / shortest < shortest / ROWS_AN_ANSWER
+    let leads = problem.part_cap() / shortest;
+    leads.saturating_mul(problem.leads().len() as u64) <= shortest.saturating_mul(2)
 }

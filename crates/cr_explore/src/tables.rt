@@ -27,13 +27,14 @@ use std::marker::Model;
 // How many rows the table of levels holds at most.
 const MOST_ROWS: u64 = 200_000;
 
-// How many bytes the records and numbers of all heads may take, 48 MB.
+// How many bytes the records and numbers of all heads may take while they are made, 48 MB.
 const MOST_BYTES: u64 = 48_000_000;
 
-// How many bytes a record takes, and how many a row's number.
-const RECORD_BYTES: u64 = 16;
+// How many bytes a lead takes then, and how many each of its rows: of all rows and of the telling ones, and for the
+// leads in which a row stands.
+const RECORD_BYTES: u64 = 36;
 
-const NUMBER_BYTES: u64 = 4;
+const NUMBER_BYTES: u64 = 12;
 
 /// The tables of a problem: its leads, the rows that are few leads from rounds, and, where they have room, its heads and
 /// rows by numbers.
@@ -44,7 +45,7 @@ pub struct Tables {
     problem: Problem,
     leads: LeadTable,
     reach: ReachTable,
-    numbers: Option<NumberTable>,
+    pub(crate) numbers: Option<NumberTable>,
 }
 
 impl Model for Tables {

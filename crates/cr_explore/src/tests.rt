@@ -1,3 +1,5 @@
+ghost use Rattle.std.specs.Prelude.{◌≡◌, IfOk};
+
 use super::*;
 use crate::tables::Tables;
 use cr_false::{Built, FalseTable};
@@ -159,6 +161,26 @@ enum Way {
 
 use Way::*;
 
+// The tables of a problem without numbers.
+fn without_numbers(alloc: Global, problem: &Problem) -> Result<Tables, Fail>
+    ensures { IfOk result (λ tables. tables ≡ problem.now) }
+{
+    let tables = Tables::with_room(alloc, problem, 0)?;
+    if tables.numbers.is_some() {
+        return Err(Fail::from("there are numbers"));
+    }
+    Ok(tables)
+}
+
+// The search by numbers.
+fn numbered(alloc: Global, problem: &Problem) -> Result<RowSearch, Fail> {
+    let search = RowSearch::new(alloc, problem)?;
+    if search.tables.numbers.is_none() {
+        return Err(Fail::from("there are no numbers"));
+    }
+    Ok(search)
+}
+
 // The search that has a falseness table and no numbers, and asks the table.
 fn asking(
     rt: &(impl AllocGlobal + Threads + Sync),
@@ -168,7 +190,7 @@ fn asking(
     let leads = LeadTable::new(alloc, problem)?;
     match FalseTable::new(rt, alloc, &leads, 4_000_000)? {
         Built::Table(table) => Ok(TableSearch {
-            tables: Tables::with_room(alloc, problem, 0)?,
+            tables: without_numbers(alloc, problem)?,
             table,
             asks_table: true,
         }),
@@ -185,9 +207,9 @@ fn search_by(
     let alloc = rt.alloc();
     let problem = problem(alloc, draft)?;
     let search = match way {
-        Numbers => Search::Rows(RowSearch::new(alloc, &problem)?),
+        Numbers => Search::Rows(numbered(alloc, &problem)?),
         Rows => {
-            let tables = Tables::with_room(alloc, &problem, 0)?;
+            let tables = without_numbers(alloc, &problem)?;
             Search::Rows(RowSearch { tables })
         }
         Table => Search::Table(asking(rt, &problem)?),
