@@ -1,125 +1,170 @@
 //! What no clause says: how a call ends whose reads, writes or notes fail one after another, and whose workers find no
 //! memory.
 
-ghost use Rattle.std.specs.Prelude.{◌≤◌, ⊤};
+ghost use Rattle.std.specs.Prelude.{⊤};
 
-use super::{OpenGate, ringsearch};
-use crate::stop_tests::{ALL_DOUBLES, DOUBLES, Ended};
+use crate::stop_tests::{ALL_DOUBLES, DOUBLES};
+use crate::test_calls::{Ending, ends_with};
 use cr_board::{Board, Opening};
 use cr_explore::RowSearch;
-use cr_io::{MemSink, MemSource};
 use cr_model::Problem;
 use cr_node::{Done, Explorer, Node};
 use cr_read::read_problem;
 use cr_row::NoMemory;
 use cr_run::run_workers;
 use std::alloc::Global;
-use std::sync::Wait;
 use std::sync::atomic::AtomicU64;
 use std::sync::atomic::Ordering::SeqCst;
 use std::test::Fail;
-use std::thread::Threads;
 
-// The numbers, from 1, of the read, the write and the write of a note that fail; 0 is none.
-type Failing = (u64, u64, u64);
-
-// A call on Plain Bob Doubles, whose source gives so many bytes at once at most, and whose sinks take 16.
-fn run<R: AllocGlobal + Threads + Wait + Sync>(
-    rt: &R,
-    words: &[&str],
-    most: u64,
-    failing: Failing,
-) -> Result<Ended, Fail>
-    requires { 1 ≤ most }
-{
-    let alloc = rt.alloc();
-    let (read, write, note) = failing;
-    let mut list = Vec::new(alloc);
-    for word in words {
-        list.push(String::from_str(alloc, word)?)?;
+// Ok where a call ended as it should, and else which call of which kind failed.
+fn check_call(name: &'static str, call: u64, is_as_wanted: bool) -> Result<(), Fail> {
+    if is_as_wanted {
+        Ok(())
+    } else {
+        Err(Fail::new(format_args!("{name}: {call}")))
     }
-    let input = DOUBLES.as_bytes().to_vec(alloc)?;
-    let mut source = MemSource::new(input, [read].to_vec(alloc)?, most);
-    let mut sink = MemSink::new(alloc, [write].to_vec(alloc)?, 16);
-    let mut notes = MemSink::new(alloc, [note].to_vec(alloc)?, 16);
-    let status = ringsearch(rt, &list, &mut source, &mut sink, &mut notes, &OpenGate);
-    Ok(Ended {
-        code: status.code(),
-        written: sink.bytes().unwrap_or_default().to_vec(alloc)?,
-        noted: notes.bytes().unwrap_or_default().to_vec(alloc)?,
-    })
 }
 
 const STOP: &[&str] = &["--turns", "2"];
 
-const STOP_NOTE: &[u8] = b"ringsearch: stopped after 2 turns\n";
+const STOPPED: &str = "ringsearch checkpoint 2
+problem 124
+stage = 5
+[[method]]
+letter = \"A\"
+notation = \"5.1.5.1.5,125\"
+[[call]]
+mark = \"b\"
+notation = \"145\"
+[query]
+min = 1
+max = 120
 
-// The words, the bytes of a read, what fails, the status, and how many bytes of the text and of the note are written. A
-// note is written in pieces: its name, each of its words and numbers, and its end.
-type Case = (&'static [&'static str], u64, Failing, u8, usize, usize);
+found 0
+jobs 2
+job 1
+0 b
+job 2
+0 pb
+1 p
+end
+";
 
-const CASES: [Case; 27] = [
-    (&[], 50, (1, 0, 0), 6, 0, 24),
-    (&[], 50, (2, 0, 0), 6, 0, 24),
-    (&[], 50, (3, 0, 0), 6, 0, 24),
-    (&[], 50, (4, 0, 0), 6, 0, 24),
-    (&[], 50, (5, 0, 0), 0, 66, 0),
-    (&[], 1, (0, 0, 0), 0, 66, 0),
-    (&[], 1, (125, 0, 0), 6, 0, 24),
-    (&[], 1, (126, 0, 0), 0, 66, 0),
-    (&[], 50, (0, 1, 0), 7, 0, 25),
-    (&[], 50, (0, 2, 0), 7, 16, 25),
-    (&[], 50, (0, 3, 0), 7, 32, 25),
-    (&[], 50, (0, 4, 0), 7, 48, 25),
-    (&[], 50, (0, 5, 0), 7, 64, 25),
-    (&[], 50, (0, 6, 0), 0, 66, 0),
-    (STOP, 50, (0, 1, 0), 7, 0, 25),
-    (STOP, 50, (0, 2, 0), 7, 16, 25),
-    (STOP, 50, (0, 8, 0), 7, 112, 25),
-    (STOP, 50, (0, 13, 0), 7, 192, 25),
-    (STOP, 50, (0, 14, 0), 3, 205, 34),
-    (STOP, 1, (0, 0, 0), 3, 205, 34),
-    (STOP, 50, (0, 0, 1), 3, 205, 0),
-    (STOP, 50, (0, 0, 2), 3, 205, 12),
-    (STOP, 50, (0, 0, 3), 3, 205, 26),
-    (STOP, 50, (0, 0, 4), 3, 205, 27),
-    (STOP, 50, (0, 0, 5), 3, 205, 33),
-    (STOP, 50, (0, 0, 6), 3, 205, 34),
-    (&[], 50, (1, 0, 1), 6, 0, 0),
+const BOOK: Ending<'static> = (0, ALL_DOUBLES, "");
+
+const CHECKPOINT: Ending<'static> = (3, STOPPED, "ringsearch: stopped after 2 turns\n");
+
+const UNREAD: Ending<'static> = (6, "", "ringsearch: read failed\n");
+
+const UNWRITTEN: Ending<'static> = (7, "", "ringsearch: write failed\n");
+
+// The front of a text, or all of it.
+fn front(text: &str, length: usize) -> &str {
+    text.get(..length).unwrap_or(text)
+}
+
+// Which reads fail, the words, how many bytes a read gives at most, how many reads there are, and how the call ends
+// where none fails. The file has 124 bytes, and the last read gives none.
+type Reads = (
+    &'static str,
+    &'static [&'static str],
+    u64,
+    u8,
+    Ending<'static>,
+);
+
+const READS: [Reads; 3] = [
+    ("reads of 50 bytes", &[], 50, 4, BOOK),
+    ("reads of a byte", &[], 1, 125, BOOK),
+    ("reads of a byte before a stop", STOP, 1, 125, CHECKPOINT),
 ];
 
-// Whether some bytes are so many of the first of a text.
-fn is_front(bytes: &[u8], text: &[u8], length: usize) -> bool {
-    text.get(..length) == Some(bytes)
+#[test]
+fn each_read_fails_in_turn(rt: HostRuntime) -> Result<(), Fail> {
+    for (name, words, most, reads, whole) in READS {
+        for before in 0..=reads {
+            let call = u64::from(before) + 1;
+            let ending = if before < reads { UNREAD } else { whole };
+            let faults = (call, 0, 0);
+            let is_as_wanted = ends_with(
+                &rt,
+                words,
+                DOUBLES.as_bytes(),
+                most.max(1),
+                faults,
+                ending,
+            )?;
+            check_call(name, call, is_as_wanted)?;
+        }
+    }
+    Ok(())
 }
 
-// What a status writes to the notes.
-fn note_of(code: u8) -> &'static [u8] {
-    match code {
-        3 => STOP_NOTE,
-        6 => b"ringsearch: read failed\n",
-        7 => b"ringsearch: write failed\n",
-        _ => b"",
-    }
-}
+// Which writes fail, the words, how many writes there are, of 16 bytes but for the last, and how the call ends where none
+// fails. The book has 66 bytes, and the checkpoint 205.
+type Writes = (&'static str, &'static [&'static str], u8, Ending<'static>);
+
+const WRITES: [Writes; 2] = [
+    ("writes of a book", &[], 5, BOOK),
+    ("writes of a checkpoint", STOP, 13, CHECKPOINT),
+];
 
 #[test]
-fn one_call_after_another_fails(rt: HostRuntime) -> Result<(), Fail> {
-    let stopped = format!(in rt.alloc();
-        "ringsearch checkpoint 2\nproblem 124\n{DOUBLES}\nfound 0\njobs 2\njob 1\n0 b\njob 2\n0 pb\n1 p\nend\n"
-    )?;
-    for (words, most, failing, code, written, noted) in CASES {
-        let ended = run(&rt, words, most.max(1), failing)?;
-        let text = if words.is_empty() {
-            ALL_DOUBLES.as_bytes()
-        } else {
-            stopped.as_bytes()
-        };
-        if ended.code != code
-            || !is_front(&ended.written, text, written)
-            || !is_front(&ended.noted, note_of(code), noted)
-        {
-            return Err(Fail::from("a call that fails ends otherwise"));
+fn each_write_fails_in_turn(rt: HostRuntime) -> Result<(), Fail> {
+    for (name, words, writes, whole) in WRITES {
+        let (_, text, _) = whole;
+        for before in 0..=writes {
+            let call = u64::from(before) + 1;
+            let (code, _, noted) = UNWRITTEN;
+            let broken = (code, front(text, usize::from(before) * 16), noted);
+            let ending = if before < writes { broken } else { whole };
+            let faults = (0, call, 0);
+            let is_as_wanted = ends_with(&rt, words, DOUBLES.as_bytes(), 50, faults, ending)?;
+            check_call(name, call, is_as_wanted)?;
+        }
+    }
+    Ok(())
+}
+
+// Which writes of a note fail, the words, the read and the write that fail before, how many bytes are written before each
+// piece of the note and after the last one, and how the call ends where the note does not fail.
+type Notes = (
+    &'static str,
+    &'static [&'static str],
+    (u64, u64),
+    &'static [usize],
+    Ending<'static>,
+);
+
+const NOTES: [Notes; 3] = [
+    (
+        "a note on turns",
+        STOP,
+        (0, 0),
+        &[0, 12, 26, 27, 33, 34],
+        CHECKPOINT,
+    ),
+    ("a note on a read", &[], (1, 0), &[0, 12, 23, 24], UNREAD),
+    (
+        "a note on a write",
+        &[],
+        (0, 1),
+        &[0, 12, 24, 25],
+        UNWRITTEN,
+    ),
+];
+
+#[test]
+fn each_write_of_a_note_fails_in_turn(rt: HostRuntime) -> Result<(), Fail> {
+    for (name, words, (read, write), lengths, (code, text, note)) in NOTES {
+        let mut call = 0u64;
+        for length in lengths {
+            call = call.saturating_add(1);
+            let ending = (code, text, front(note, *length));
+            let faults = (read, write, call);
+            let is_as_wanted = ends_with(&rt, words, DOUBLES.as_bytes(), 50, faults, ending)?;
+            check_call(name, call, is_as_wanted)?;
         }
     }
     Ok(())
@@ -169,8 +214,8 @@ fn has_found(board: &Board, touch: &[u8]) -> bool {
     false
 }
 
-// Whether a board found all touches of Plain Bob Doubles, and no others.
-fn has_all(board: &Board) -> bool {
+/// Whether a board found all touches of Plain Bob Doubles, and no others.
+pub fn has_all(board: &Board) -> bool {
     for touch in TOUCHES {
         if !has_found(board, touch) {
             return false;

@@ -4,6 +4,8 @@
 
 mod boards;
 #[cfg(test)]
+mod desk_tests;
+#[cfg(test)]
 mod fault_tests;
 mod gate;
 mod making;
@@ -17,6 +19,8 @@ mod start;
 mod status;
 #[cfg(test)]
 mod stop_tests;
+#[cfg(test)]
+mod test_calls;
 #[cfg(test)]
 mod tests;
 mod top;

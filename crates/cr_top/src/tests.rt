@@ -1,10 +1,7 @@
 //! What no clause says: whole calls, from words and bytes to status, bytes and note, with ample memory.
 
-use super::{OpenGate, ringsearch};
-use cr_io::{MemSink, MemSource};
-use std::sync::Wait;
+use crate::test_calls::{Ending, Faults, check, ends, ends_with};
 use std::test::Fail;
-use std::thread::Threads;
 
 const MINIMUS_LEADS: &str = "stage = 4
 [[method]]
@@ -167,22 +164,13 @@ const BOOKS: [(&str, &str, &str, &str); 21] = [
 fn books(rt: HostRuntime) -> Result<(), Fail> {
     for (name, start, end, book) in BOOKS {
         let input = format!(in rt.alloc(); "{start}{end}")?;
-        run(&rt, (name, &[], &input, (0, 0, 0), 0, book, ""))?;
+        check(name, ends(&rt, &[], input.as_bytes(), (0, book, ""))?)?;
     }
     Ok(())
 }
 
-// Which case it is, the words, the input, which call of the source, of the sink and of the notes fails,
-// and the status, what is written, and the note.
-type Call<'a> = (
-    &'static str,
-    &'a [&'a str],
-    &'a str,
-    (u64, u64, u64),
-    u8,
-    &'a str,
-    &'a str,
-);
+// Which case it is, the input, which read, write and write of a note fails, and how the call ends.
+type Call = (&'static str, &'static str, Faults, Ending<'static>);
 
 const MINIMUS: &str = "stage = 4
 [[method]]
@@ -248,188 +236,141 @@ const DONE: &str = "24 ppp\ntouches 1\n";
 
 const SUMMARY: &str = "plain bob minor 1 to 72\ntouches 9\nlongest 72\n36 2\n60 1\n72 6\n";
 
-const WORDS: [(&[&str], u8, &str, &str); 17] = [
-    (&[], 0, DONE, ""),
-    (&["--do", "search"], 0, DONE, ""),
-    (&["--workers=64", "--do=search"], 0, DONE, ""),
-    (&["--turns", "4"], 0, DONE, ""),
-    (&["--do", "make"], 0, SUMMARY, ""),
-    (&["--do", "make", "--number", "7"], 0, SUMMARY, ""),
-    (&["--workers", "0"], 2, "", "ringsearch: words 2 Workers\n"),
-    (&["--workers", "65"], 2, "", "ringsearch: words 2 Workers\n"),
-    (&["--turns="], 2, "", "ringsearch: words 3 Turns\n"),
+const WORDS: [(&[&str], Ending<'static>); 17] = [
+    (&[], (0, DONE, "")),
+    (&["--do", "search"], (0, DONE, "")),
+    (&["--workers=64", "--do=search"], (0, DONE, "")),
+    (&["--turns", "4"], (0, DONE, "")),
+    (&["--do", "make"], (0, SUMMARY, "")),
+    (&["--do", "make", "--number", "7"], (0, SUMMARY, "")),
+    (
+        &["--workers", "0"],
+        (2, "", "ringsearch: words 2 Workers\n"),
+    ),
+    (
+        &["--workers", "65"],
+        (2, "", "ringsearch: words 2 Workers\n"),
+    ),
+    (&["--turns="], (2, "", "ringsearch: words 3 Turns\n")),
     (
         &["--number", "4294967296"],
-        2,
-        "",
-        "ringsearch: words 4 Number\n",
+        (2, "", "ringsearch: words 4 Number\n"),
     ),
-    (&["--do", "find"], 2, "", "ringsearch: words 5 Mode\n"),
+    (&["--do", "find"], (2, "", "ringsearch: words 5 Mode\n")),
     (
         &["--do", "make", "--turns", "5"],
-        2,
-        "",
-        "ringsearch: words 6 Mixed\n",
+        (2, "", "ringsearch: words 6 Mixed\n"),
     ),
-    (&["--number", "1"], 2, "", "ringsearch: words 6 Mixed\n"),
-    (&["--bells"], 2, "", "ringsearch: words 1 Line\n"),
-    (&["--workers"], 2, "", "ringsearch: words 1 Line\n"),
-    (&["--help"], 2, "", "ringsearch: words 1 Line\n"),
-    (&["--do", "search", ""], 2, "", "ringsearch: words 1 Line\n"),
+    (&["--number", "1"], (2, "", "ringsearch: words 6 Mixed\n")),
+    (&["--bells"], (2, "", "ringsearch: words 1 Line\n")),
+    (&["--workers"], (2, "", "ringsearch: words 1 Line\n")),
+    (&["--help"], (2, "", "ringsearch: words 1 Line\n")),
+    (
+        &["--do", "search", ""],
+        (2, "", "ringsearch: words 1 Line\n"),
+    ),
 ];
 
 #[test]
 fn words(rt: HostRuntime) -> Result<(), Fail> {
-    for (words, code, written, noted) in WORDS {
-        run(
-            &rt,
-            ("words", words, MINIMUS, (0, 0, 0), code, written, noted),
-        )?;
+    for (words, ending) in WORDS {
+        check("words", ends(&rt, words, MINIMUS.as_bytes(), ending)?)?;
     }
     Ok(())
 }
 
-const CALLS: [Call<'static>; 14] = [
+const CALLS: [Call; 14] = [
     (
         "limits the wrong way round",
-        &[],
         TURNED_COM,
         (0, 0, 0),
-        4,
-        "",
-        "ringsearch: problem 17 Com\n",
+        (4, "", "ringsearch: problem 17 Com\n"),
     ),
     (
         "no TOML",
-        &[],
         "stage =",
         (0, 0, 0),
-        4,
-        "",
-        "ringsearch: problem 1 NotToml\n",
+        (4, "", "ringsearch: problem 1 NotToml\n"),
     ),
     (
         "nothing",
-        &[],
         "",
         (0, 0, 0),
-        4,
-        "",
-        "ringsearch: problem 2 Key stage\n",
+        (4, "", "ringsearch: problem 2 Key stage\n"),
     ),
     (
         "too deep",
-        &[],
         DEEP,
         (0, 0, 0),
-        4,
-        "",
-        "ringsearch: problem 12 Deep 1025\n",
+        (4, "", "ringsearch: problem 12 Deep 1025\n"),
     ),
     (
         "odd",
-        &[],
         ODD,
         (0, 0, 0),
-        4,
-        "",
-        "ringsearch: problem 5 Notation method 0 CrossOnOdd 0\n",
+        (
+            4,
+            "",
+            "ringsearch: problem 5 Notation method 0 CrossOnOdd 0\n",
+        ),
     ),
     (
         "the first read fails",
-        &[],
         MINIMUS,
         (1, 0, 0),
-        6,
-        "",
-        "ringsearch: read failed\n",
+        (6, "", "ringsearch: read failed\n"),
     ),
     (
         "the second read fails",
-        &[],
         MINIMUS,
         (2, 0, 0),
-        6,
-        "",
-        "ringsearch: read failed\n",
+        (6, "", "ringsearch: read failed\n"),
     ),
     (
         "the first write fails",
-        &[],
         MINIMUS,
         (0, 1, 0),
-        7,
-        "",
-        "ringsearch: write failed\n",
+        (7, "", "ringsearch: write failed\n"),
     ),
     (
         "the second write fails",
-        &[],
         MINIMUS,
         (0, 2, 0),
-        7,
-        "24 ppp\ntouches 1",
-        "ringsearch: write failed\n",
+        (7, "24 ppp\ntouches 1", "ringsearch: write failed\n"),
     ),
     (
         "the second read of more fails",
-        &[],
         DOUBLES,
         (2, 0, 0),
-        6,
-        "",
-        "ringsearch: read failed\n",
+        (6, "", "ringsearch: read failed\n"),
     ),
     (
         "the third write of more fails",
-        &[],
         DOUBLES,
         (0, 3, 0),
-        7,
-        "20 bb\n40 pppp\n60 pbpbpb\n100 ppbp",
-        "ringsearch: write failed\n",
+        (
+            7,
+            "20 bb\n40 pppp\n60 pbpbpb\n100 ppbp",
+            "ringsearch: write failed\n",
+        ),
     ),
-    ("notes fail at once", &[], SEVENTEEN, (0, 0, 1), 4, "", ""),
-    ("the note fails too", &[], MINIMUS, (1, 0, 1), 6, "", ""),
+    ("notes fail at once", SEVENTEEN, (0, 0, 1), (4, "", "")),
+    ("the note fails too", MINIMUS, (1, 0, 1), (6, "", "")),
     (
         "the note's number fails",
-        &[],
         DEEP,
         (0, 0, 4),
-        4,
-        "",
-        "ringsearch: problem 12 Deep ",
+        (4, "", "ringsearch: problem 12 Deep "),
     ),
 ];
 
 #[test]
-fn words_inputs_and_faults(rt: HostRuntime) -> Result<(), Fail> {
-    for call in CALLS {
-        run(&rt, call)?;
+fn inputs_and_faults(rt: HostRuntime) -> Result<(), Fail> {
+    for (name, input, faults, ending) in CALLS {
+        check(
+            name,
+            ends_with(&rt, &[], input.as_bytes(), 50, faults, ending)?,
+        )?;
     }
     Ok(())
-}
-
-// One call of the whole, whose source gives at most 50 bytes at a time and whose sink takes at most 16. Err with the
-// name of the case where anything differs.
-fn run<R: AllocGlobal + Threads + Wait + Sync>(rt: &R, call: Call) -> Result<(), Fail> {
-    let (name, words, input, (read, write, note), code, written, noted) = call;
-    let alloc = rt.alloc();
-    let mut list = Vec::new(alloc);
-    for word in words {
-        list.push(String::from_str(alloc, word)?)?;
-    }
-    let bytes = input.as_bytes().to_vec(alloc)?;
-    let mut source = MemSource::new(bytes, [read].to_vec(alloc)?, 50);
-    let mut sink = MemSink::new(alloc, [write].to_vec(alloc)?, 16);
-    let mut notes = MemSink::new(alloc, [note].to_vec(alloc)?, 100);
-    let status = ringsearch(rt, &list, &mut source, &mut sink, &mut notes, &OpenGate);
-    if status.code() == code
-        && sink.bytes() == Some(written.as_bytes())
-        && notes.bytes() == Some(noted.as_bytes())
-    {
-        Ok(())
-    } else {
-        Err(Fail::from(name))
-    }
 }

@@ -1,43 +1,41 @@
 //! What no clause says: that workers search side by side, with ample memory.
 
 use super::{Gate, ringsearch};
-use crate::stop_tests::{ALL_DOUBLES, DOUBLES, MINIMUS, run};
+use crate::stop_tests::{ALL_DOUBLES, DOUBLES, MINIMUS, checkpoint};
+use crate::test_calls::{answered, check, words_of};
 use cr_io::{SureSink, SureSource};
 use std::sync::atomic::Ordering::SeqCst;
 use std::sync::atomic::{AtomicBool, AtomicU64};
 use std::test::Fail;
 
-// How many workers and after how many turns a search of which problem, and the status.
-const TOGETHER: [(&str, &str, &str, u8); 9] = [
-    (DOUBLES, "1", "32", 0),
-    (DOUBLES, "2", "32", 0),
-    (DOUBLES, "16", "32", 0),
-    (DOUBLES, "64", "5000", 0),
-    (DOUBLES, "3", "31", 3),
-    (MINIMUS, "1", "3", 3),
-    (MINIMUS, "4", "3", 3),
-    (MINIMUS, "1", "4", 0),
-    (MINIMUS, "4", "4", 0),
+const ALL_MINIMUS: &str = "24 ppp\ntouches 1\n";
+
+// How many workers and after how many turns a search of which problem, the status, and the book.
+const TOGETHER: [(&str, &str, &str, u8, &str); 9] = [
+    (DOUBLES, "1", "32", 0, ALL_DOUBLES),
+    (DOUBLES, "2", "32", 0, ALL_DOUBLES),
+    (DOUBLES, "16", "32", 0, ALL_DOUBLES),
+    (DOUBLES, "64", "5000", 0, ALL_DOUBLES),
+    (DOUBLES, "3", "31", 3, ALL_DOUBLES),
+    (MINIMUS, "1", "3", 3, ALL_MINIMUS),
+    (MINIMUS, "4", "3", 3, ALL_MINIMUS),
+    (MINIMUS, "1", "4", 0, ALL_MINIMUS),
+    (MINIMUS, "4", "4", 0, ALL_MINIMUS),
 ];
 
 #[test]
 fn workers_search_together(rt: HostRuntime) -> Result<(), Fail> {
-    for (problem, workers, turns, code) in TOGETHER {
-        let ended = run(
+    for (problem, workers, turns, code, book) in TOGETHER {
+        let (ended, mut text) = answered(
             &rt,
             &["--workers", workers, "--turns", turns],
             problem.as_bytes(),
         )?;
-        if ended.code != code {
-            return Err(Fail::from(workers));
-        }
+        check(workers, ended == code)?;
         if code == 3 {
-            let whole = run(&rt, &["--workers", workers], &ended.written)?;
-            let alone = run(&rt, &[], problem.as_bytes())?;
-            if whole.written.as_slice() != alone.written.as_slice() {
-                return Err(Fail::from(turns));
-            }
+            (_, text) = answered(&rt, &["--workers", workers], &text)?;
         }
+        check(turns, text.as_slice() == book.as_bytes())?;
     }
     Ok(())
 }
@@ -65,12 +63,8 @@ impl Gate for Meeting {
 #[test]
 fn two_workers_are_inside_at_once(rt: HostRuntime) -> Result<(), Fail> {
     let alloc = rt.alloc();
-    let input = format!(in alloc;
-        "ringsearch checkpoint 2\nproblem 124\n{DOUBLES}\nfound 0\njobs 2\njob 1\n0 b\njob 1\n0 p\nend\n"
-    )?;
-    let mut words = Vec::new(alloc);
-    words.push(String::from_str(alloc, "--workers")?)?;
-    words.push(String::from_str(alloc, "2")?)?;
+    let input = checkpoint(alloc, "2", "found 0\njobs 2\njob 1\n0 b\njob 1\n0 p\nend\n")?;
+    let words = words_of(alloc, &["--workers", "2"])?;
     let gate = Meeting {
         entered: AtomicU64::new(0),
         met: AtomicBool::new(false),
@@ -79,13 +73,7 @@ fn two_workers_are_inside_at_once(rt: HostRuntime) -> Result<(), Fail> {
     let mut sink = SureSink::new(alloc);
     let mut notes = SureSink::new(alloc);
     let status = ringsearch(&rt, &words, &mut source, &mut sink, &mut notes, &gate);
-    if status.code() == 0
-        && sink.bytes() == Some(ALL_DOUBLES.as_bytes())
-        && gate.met.load(SeqCst)
-        && gate.entered.load(SeqCst) == 2
-    {
-        Ok(())
-    } else {
-        Err(Fail::from("meeting"))
-    }
+    let have_met = gate.met.load(SeqCst) && gate.entered.load(SeqCst) == 2;
+    let has_book = status.code() == 0 && sink.bytes() == Some(ALL_DOUBLES.as_bytes());
+    check("meeting", have_met && has_book)
 }
