@@ -4,6 +4,7 @@ ghost use Rattle.std.specs.Prelude.{IsTrue, All};
 ghost use Rattle.cr_model.specs.Callings.{HasSteps};
 
 use super::*;
+use crate::order::in_piles;
 use cr_model::{Calling, Lead, Problem, Query, Step};
 use cr_row::{Change, Stage};
 use std::alloc::Global;
@@ -160,6 +161,26 @@ const MIXED: [&[u8]; 6] = [
 const SORTED: &str =
     "20 bb\n40 pppp\n60 pbpbpb\n60 bpbpbp\n100 ppbpbppbpb\n120 pppbpppbpppb\ntouches 6\n";
 
+// Three runs that alternate.
+const THREE_RUNS: [&[u8]; 9] = [
+    &[1],
+    &[0, 0, 0],
+    &[0, 1, 0],
+    &[1, 0, 1, 0],
+    &[0, 0, 1],
+    &[0, 1, 0, 1],
+    &[1, 1],
+    &[0, 0, 1, 1],
+    &[0, 1, 1],
+];
+
+const THREE_SORTED: &str =
+    "10 b\n20 bb\n30 ppp\n30 ppb\n30 pbp\n30 pbb\n40 ppbb\n40 pbpb\n40 bpbp\ntouches 9\n";
+
+// They are put on the first pile whose last calling is not after them.
+const THREE_PILES: &str =
+    "10 b\n40 bpbp\n20 bb\n30 ppp\n30 pbp\n40 pbpb\n30 pbb\n30 ppb\n40 ppbb\ntouches 9\n";
+
 const ONE_LENGTH: [&[u8]; 4] = [&[1, 0, 1], &[0, 1, 1], &[1, 0, 0], &[0, 0, 1]];
 
 const ONE_STEP: [&[u8]; 1] = [&[1]];
@@ -167,11 +188,12 @@ const ONE_STEP: [&[u8]; 1] = [&[1]];
 const TWICE: [&[u8]; 3] = [&[1, 1], &[0], &[1, 1]];
 
 // The callings as they were found, and the book of them.
-const SORTINGS: [(&[&[u8]], &str); 8] = [
+const SORTINGS: [(&[&[u8]], &str); 9] = [
     (&IN_ORDER, SORTED),
     (&IN_REVERSE, SORTED),
     (&TWO_RUNS, SORTED),
     (&MIXED, SORTED),
+    (&THREE_RUNS, THREE_SORTED),
     (&ONE_LENGTH, "30 ppb\n30 pbb\n30 bpp\n30 bpb\ntouches 4\n"),
     (&ONE_STEP, "10 b\ntouches 1\n"),
     (&TWICE, "10 p\n20 bb\n20 bb\ntouches 3\n"),
@@ -211,6 +233,24 @@ fn found_touches_are_sorted(rt: HostRuntime) -> Result<(), Fail> {
             return Err(Fail::from(want));
         }
     }
+    Ok(())
+}
+
+// Callings in their piles, one after another.
+fn piled_text(alloc: Global, problem: &Problem, rows: &[&[u8]]) -> Result<Vec<u8>, Fail> {
+    let piled = in_piles(alloc, callings_of(alloc, rows)?)?;
+    if !all_known(problem, &piled) {
+        return Err(Fail::from("the steps exist"));
+    }
+    Ok(book_text(alloc, problem, &piled)?)
+}
+
+#[test]
+fn alternating_runs_are_parted(rt: HostRuntime) -> Result<(), Fail> {
+    let alloc = rt.alloc();
+    let problem = problem_of(alloc, DOUBLES)?;
+    let text = piled_text(alloc, &problem, &THREE_RUNS)?;
+    assert!(rt; text.as_slice() == THREE_PILES.as_bytes());
     Ok(())
 }
 
