@@ -20,3 +20,6 @@ pub mod Kept
 pub mod Enough
 pub mod Counts
 pub mod Uncut
+pub mod Turns
+pub mod Fitting
+pub mod Turned

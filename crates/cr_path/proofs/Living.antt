@@ -154,26 +154,39 @@ module _ (p : ProblemParts) (t : NumberParts) (node : List ℕ) (step : ℕ) (le
       twice true = refl
       twice false = refl
 
-  module _ (late marked turned : Bool) (late_is : late ≡ nat_le lead.limit end.rung) (marked_is : marked ≡ some_marked marks numbers) (turned_is : turned ≡ is_turned_back p (child node step)) where
-    cut_by_all : (((late || marked) || turned) || is_hopeless_by_leads p (child node step)) ≡ is_cut p most_rows (child node step)
+  module _ (late marked : Bool) (late_is : late ≡ nat_le lead.limit end.rung) (marked_is : marked ≡ some_marked marks numbers) (straight : is_turned_back p (child node step) ≡ false) where
+    cut_by_all : ((late || marked) || is_hopeless_by_leads p (child node step)) ≡ is_cut p most_rows (child node step)
     cut_by_all =
-        joined late marked turned (is_hopeless_by_leads p (child node step))
-        ∙ (λ i. (late_is ∙ not_less lead.limit end.rung) i || (marked_is i || (turned_is i || is_hopeless_by_leads p (child node step))))
+        joined late marked (is_hopeless_by_leads p (child node step))
+        ∙ (λ i. (late_is ∙ not_less lead.limit end.rung) i || (marked_is i || (sym straight i || is_hopeless_by_leads p (child node step))))
         ∙ cut_told
       where
-        joined : (a b c d : Bool) → (((a || b) || c) || d) ≡ (a || (b || (c || d)))
-        joined true b c d = refl
-        joined false true c d = refl
-        joined false false c d = refl
+        joined : (a b c : Bool) → ((a || b) || c) ≡ (a || (b || (false || c)))
+        joined true b c = refl
+        joined false true c = refl
+        joined false false c = refl
 
         not_less : (a b : ℕ) → nat_le a b ≡ not (nat_lt b a)
         not_less a b = grind (arith, nat_tests)
 
-    pub cut_early : ((late || marked) || turned) ≡ true → ((late || marked) || turned) ≡ is_cut p most_rows (child node step)
+    pub cut_early : (late || marked) ≡ true → (late || marked) ≡ is_cut p most_rows (child node step)
     cut_early holds = holds ∙ ap (λ b. b || is_hopeless_by_leads p (child node step)) (sym holds) ∙ cut_by_all
 
-    pub cut_by_leads : (hopeless : Bool) → ((late || marked) || turned) ≡ false → hopeless ≡ is_hopeless_by_leads p (child node step) → hopeless ≡ is_cut p most_rows (child node step)
+    pub cut_by_leads : (hopeless : Bool) → (late || marked) ≡ false → hopeless ≡ is_hopeless_by_leads p (child node step) → hopeless ≡ is_cut p most_rows (child node step)
     cut_by_leads hopeless none by_leads = by_leads ∙ ap (λ b. b || is_hopeless_by_leads p (child node step)) (sym none) ∙ cut_by_all
+
+-- a node that turns back is cut
+pub turned_cut : (p : ProblemParts) (most : ℕ) (node : List ℕ) → is_turned_back p node ≡ true → is_cut p most node ≡ true
+turned_cut p most node turned =
+    sixth (is_long p node) (is_self_false p node) (is_again p node) (is_home p node) (is_far p most node) (is_turned_back p node) (is_hopeless_by_leads p node) turned
+  where
+    sixth : (a b c d e f g : Bool) → f ≡ true → (a || (b || (c || (d || (e || (f || g)))))) ≡ true
+    sixth true b c d e f g holds = refl
+    sixth false true c d e f g holds = refl
+    sixth false false true d e f g holds = refl
+    sixth false false false true e f g holds = refl
+    sixth false false false false true f g holds = refl
+    sixth false false false false false f g holds = or_left f g holds
 
 -- the first reason, told by the test of each
 abbrev first_of : Bool → Bool → Bool → Bool → Bool → Bool → Bool → Bool → Option Reason

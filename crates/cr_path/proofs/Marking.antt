@@ -4,7 +4,7 @@ use Rattle.std.specs.List.{list_any}
 use Rattle.std.proofs.lemmas.Bool.{and_parts, cases_eq, false≢true, false_from_ne_true, not-true}
 use Rattle.std.proofs.lemmas.Bool.Decides.{eqb_tells, same_from_decides, Decides-like}
 use Rattle.std.proofs.lemmas.List.{take_all, take-append-le}
-use Rattle.std.proofs.lemmas.List.Elements.{All-take, All-drop}
+use Rattle.std.proofs.lemmas.List.Elements.{All-append, All-take, All-drop}
 use Rattle.cr_model.specs.Problems.{ProblemParts}
 use Rattle.cr_model.specs.Callings.{rows_of, head_of, changes_of_all}
 use Rattle.cr_model.specs.Decided.{rows_differ}
@@ -26,8 +26,10 @@ child_before : (node : List ℕ) (step n : ℕ) → n ≤ length node → take n
 child_before node step n within = take-append-le n node (step ∷ []) within
 
 -- the numbers of a lead
-pub within_in : (p : ProblemParts) (t : NumberParts) → IsNumbered p t → (lead : LeadRecord) → All (λ number. number < length t.rows) (numbers_of t lead)
-within_in p t numbered lead = All-take (λ (number : ℕ). number < length t.rows) lead.count (drop lead.start t.numbers) (All-drop (λ (number : ℕ). number < length t.rows) lead.start t.numbers numbered.within)
+pub within_in : (p : ProblemParts) (t : NumberParts) → IsNumbered p t → (lead : LeadRecord) → All (λ number. number < length t.rows) lead.near → All (λ number. number < length t.rows) (numbers_of t lead)
+within_in p t numbered lead near =
+    All-append (λ (number : ℕ). number < length t.rows) lead.near (take lead.count (drop lead.start t.numbers)) near
+    (All-take (λ (number : ℕ). number < length t.rows) lead.count (drop lead.start t.numbers) (All-drop (λ (number : ℕ). number < length t.rows) lead.start t.numbers numbered.within))
 
 module _ (p : ProblemParts) (node : List ℕ) (step : ℕ) where
   child_differs : rows_differ (rows_of p (child node step)) ≡ (rows_differ (rows_of p node) && (rows_differ (lead_from p (head_of p node) step) && not (list_any (is_listed (rows_of p node)) (lead_from p (head_of p node) step))))
@@ -166,7 +168,7 @@ module _ (p : ProblemParts) (t : NumberParts) (numbered : IsNumbered p t) (node 
   pub marked_told : (numbers : List ℕ) → numbers ≡ numbers_of t lead → some_marked marks numbers ≡ list_any (is_listed (rows_of p node)) (lead_from p (head_of p node) step)
   marked_told numbers is =
       ap (some_marked marks) is
-      ∙ some_are t.rows (rows_of p node) marks (numbers_of t lead) (marks_of p t node marks fresh are (all_fresh p t node marks fresh are differ)) (within_in p t numbered lead)
+      ∙ some_are t.rows (rows_of p node) marks (numbers_of t lead) (marks_of p t node marks fresh are (all_fresh p t node marks fresh are differ)) (within_in p t numbered lead found.known.near)
       ∙ sym found.told
 
   pub new_told : (numbers : List ℕ) → numbers ≡ numbers_of t lead → (not lead.twice && not (some_marked marks numbers)) ≡ rows_differ (rows_of p (child node step))

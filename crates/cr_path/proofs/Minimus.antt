@@ -1,9 +1,10 @@
 -- Plain Bob Minimus by numbers.
 use Rattle.std.proofs.Common.{◌≡◌, ◌≢◌, ℕ, zero, suc, ◌+◌, ◌*◌, ◌<◌, ◌≤◌, ◌↔◌, not, ◌||◌, nat_lt, nat_eq, List, [], ◌∷◌, length, get_or, refl, sym, ap, ◌∙◌, arith, lit<, lit≤}
-use Rattle.std.specs.Prelude.{Contains}
+use Rattle.std.specs.Prelude.{Contains, All}
 use Rattle.std.specs.List.{list_any}
 use Rattle.std.proofs.lemmas.Bool.{false≢true}
 use Rattle.std.proofs.lemmas.Bool.Decides.{nat_tests, Decides-ltb}
+use Rattle.std.proofs.lemmas.List.Elements.{All-cons, All-nil}
 use Rattle.cr_row.specs.Rows.{rounds}
 use Rattle.cr_model.specs.Problems.{QueryParts, ProblemParts}
 use Rattle.cr_model.specs.Queries.{extent}
@@ -63,27 +64,34 @@ below_9 rung = grind (arith, nat_tests)
 below_17 : (rung : ℕ) → nat_lt rung 17 ≡ not (nat_lt 24 (rung + 8) || nat_lt 24 (rung + 8 + 8 * 0))
 below_17 rung = grind (arith, nat_tests)
 
+-- a telling row of a lead
+near_inside : (number : ℕ) → number < 3 → All (λ n. n < 3) (number ∷ number ∷ number ∷ [])
+near_inside number low =
+    All-cons (λ n. n < 3) number (number ∷ number ∷ []) low
+    (All-cons (λ n. n < 3) number (number ∷ []) low
+    (All-cons (λ n. n < 3) number [] low (All-nil (λ n. n < 3))))
+
 -- which telling rows stand in a lead, and which other leads have them
 module _ (laws : LevelLaws) where
-  first_are : (number : ℕ) → number < 3 → list_any (nat_eq number) (1 ∷ []) ≡ is_listed (lead_from minimus (1 ∷ 2 ∷ 3 ∷ 4 ∷ []) 0) (get_or minimus_numbers.rows number [])
+  first_are : (number : ℕ) → number < 3 → list_any (nat_eq number) (1 ∷ 1 ∷ 1 ∷ []) ≡ is_listed (lead_from minimus (1 ∷ 2 ∷ 3 ∷ 4 ∷ []) 0) (get_or minimus_numbers.rows number [])
   first_are zero inside = refl
   first_are (suc zero) inside = refl
   first_are (suc (suc zero)) inside = refl
   first_are (suc (suc (suc number))) inside = absurd (omega arith)
 
-  second_are : (number : ℕ) → number < 3 → list_any (nat_eq number) (2 ∷ []) ≡ is_listed (lead_from minimus (1 ∷ 3 ∷ 4 ∷ 2 ∷ []) 0) (get_or minimus_numbers.rows number [])
+  second_are : (number : ℕ) → number < 3 → list_any (nat_eq number) (2 ∷ 2 ∷ 2 ∷ []) ≡ is_listed (lead_from minimus (1 ∷ 3 ∷ 4 ∷ 2 ∷ []) 0) (get_or minimus_numbers.rows number [])
   second_are zero inside = refl
   second_are (suc zero) inside = refl
   second_are (suc (suc zero)) inside = refl
   second_are (suc (suc (suc number))) inside = absurd (omega arith)
 
-  third_are : (number : ℕ) → number < 3 → list_any (nat_eq number) (0 ∷ []) ≡ is_listed (lead_from minimus (1 ∷ 4 ∷ 2 ∷ 3 ∷ []) 0) (get_or minimus_numbers.rows number [])
+  third_are : (number : ℕ) → number < 3 → list_any (nat_eq number) (0 ∷ 0 ∷ 0 ∷ []) ≡ is_listed (lead_from minimus (1 ∷ 4 ∷ 2 ∷ 3 ∷ []) 0) (get_or minimus_numbers.rows number [])
   third_are zero inside = refl
   third_are (suc zero) inside = refl
   third_are (suc (suc zero)) inside = refl
   third_are (suc (suc (suc number))) inside = absurd (omega arith)
 
-  first : IsRecord minimus minimus_numbers (1 ∷ 2 ∷ 3 ∷ 4 ∷ []) 0 (lead_at 1 0 1 1)
+  first : IsRecord minimus minimus_numbers (1 ∷ 2 ∷ 3 ∷ 4 ∷ []) 0 (lead_at 1 1 1)
   unfolding extent
   first = record {
     next = lit< tt;
@@ -92,11 +100,12 @@ module _ (laws : LevelLaws) where
         ∙ ap (λ (leads : ℕ). not (nat_lt 24 (rung + 8) || nat_lt 24 (rung + 8 + 8 * leads))) (sym (two_away laws (asks 1 24 1)));
     long = refl;
     twice = refl;
+    near = near_inside 1 (lit< tt);
     within = lit≤ tt;
     are = first_are;
   }
 
-  second : IsRecord minimus minimus_numbers (1 ∷ 3 ∷ 4 ∷ 2 ∷ []) 0 (lead_at 2 1 9 1)
+  second : IsRecord minimus minimus_numbers (1 ∷ 3 ∷ 4 ∷ 2 ∷ []) 0 (lead_at 2 2 9)
   unfolding extent
   second = record {
     next = lit< tt;
@@ -105,11 +114,12 @@ module _ (laws : LevelLaws) where
         ∙ ap (λ (leads : ℕ). not (nat_lt 24 (rung + 8) || nat_lt 24 (rung + 8 + 8 * leads))) (sym (one_away laws (asks 1 24 1)));
     long = refl;
     twice = refl;
+    near = near_inside 2 (lit< tt);
     within = lit≤ tt;
     are = second_are;
   }
 
-  third : IsRecord minimus minimus_numbers (1 ∷ 4 ∷ 2 ∷ 3 ∷ []) 0 (lead_at 0 2 17 1)
+  third : IsRecord minimus minimus_numbers (1 ∷ 4 ∷ 2 ∷ 3 ∷ []) 0 (lead_at 0 0 17)
   unfolding extent
   third = record {
     next = lit< tt;
@@ -118,6 +128,7 @@ module _ (laws : LevelLaws) where
         ∙ ap (λ (leads : ℕ). not (nat_lt 24 (rung + 8) || nat_lt 24 (rung + 8 + 8 * leads))) (sym (at_home laws (asks 1 24 1)));
     long = refl;
     twice = refl;
+    near = near_inside 0 (lit< tt);
     within = lit≤ tt;
     are = third_are;
   }
@@ -168,6 +179,7 @@ module _ (laws : LevelLaws) where
     within = (all_decided (λ (n : ℕ). nat_lt n 3) (λ (n : ℕ). n < 3) (λ n. Decides-ltb n 3) minimus_numbers.numbers).0 refl;
     each = each;
     told = told;
+    fitting = refl;
   }
 
 -- two leads that have rows in common
@@ -178,4 +190,4 @@ first_told_of zero (suc (suc step)) d head_in step_in = absurd (omega arith)
 first_told_of (suc head) step d head_in step_in = absurd (omega arith)
 
 pub last_left_out : IsTold called (called_numbers 1) (lead_from called (rounds 4) 1) → ⊥
-last_left_out told = false≢true (sym (told 0 0 (lead_at 0 0 0 0) (lit< tt) (lit< tt)))
+last_left_out told = false≢true (sym (told 0 0 (lead_at 0 0 0) (lit< tt) (lit< tt)))

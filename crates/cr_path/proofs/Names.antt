@@ -1,14 +1,14 @@
 -- Telling rows and their numbers, one more after another.
-use Rattle.std.proofs.Common.{◌≡◌, ℕ, ◌+◌, ◌<◌, ◌≤◌, Bool, true, false, cond, ◌||◌, nat_eq, List, [], ◌∷◌, ◌++◌, length, get_or, map, take, drop, inl, inr, refl, sym, ap, ap₂, ◌∙◌, subst, arith, eq-eqb, eqb-true, length-append}
+use Rattle.std.proofs.Common.{◌≡◌, ℕ, ◌+◌, ◌-◌, ◌<◌, ◌≤◌, Bool, true, false, cond, ◌||◌, nat_eq, List, [], ◌∷◌, ◌++◌, length, get_or, map, take, drop, inl, inr, refl, sym, ap, ap₂, ◌∙◌, subst, arith, eq-eqb, eqb-true, length-append}
 use Rattle.std.specs.Prelude.{All}
 use Rattle.std.specs.List.{list_any}
-use Rattle.std.proofs.lemmas.Bool.{cases_eq, or_right}
-use Rattle.std.proofs.lemmas.List.{append-nil, append_assoc, get_or_append_left, get_or_push, get_or_default, length_push, length-drop, drop_at, drop-append-le, take-append-le, take_all}
-use Rattle.std.proofs.lemmas.List.Elements.{All-append, All-same}
+use Rattle.std.proofs.lemmas.Bool.{cases_eq, or_left, or_right, false≢true}
+use Rattle.std.proofs.lemmas.List.{append-nil, append_assoc, get_or_append_left, get_or_push, get_or_default, length_push, length-drop, length-take-le, drop_at, drop-append-le, take-append-le, take_all}
+use Rattle.std.proofs.lemmas.List.Elements.{All-append, All-push, All-drop, All-same}
 use Rattle.std.proofs.lemmas.List.Folds.{list_any-append, list_any_at}
 use Rattle.cr_rowset.specs.Pushing.{StandsAt}
-use Rattle.cr_path.specs.Rung.{rung_numbers}
-use Rattle.cr_path.specs.Telling.{AreTelling, AreNamed, IsLike, IsNamed, AreAllNamed}
+use Rattle.cr_path.specs.Rung.{rung_numbers, IsHeld}
+use Rattle.cr_path.specs.Telling.{AreTelling, AreSame, AreNear, IsLike, IsNamed, AreAllNamed}
 use Rattle.cr_path.specs.declared.numbering.RungLead.{RungLead}
 use Rattle.cr_path.specs.declared.table.LeadRecord.{LeadRecord}
 use Rattle.cr_path.proofs.Covering.{holds_among}
@@ -100,24 +100,43 @@ module _ (names more : List ℕ) (name : ℕ) (same : (k : ℕ) → list_any (na
   once_more k false is =
       list_any-append (nat_eq k) more (name ∷ []) ∙ ap (λ (b : Bool). b || list_any (nat_eq k) (name ∷ [])) (same k) ∙ sym (list_any-append (nat_eq k) names (name ∷ []))
 
-pub named_more : (before names now next : List ℕ) (start name : ℕ) → AreNamed before names now → start ≡ length before
-    → next ≡ now ++ cond (list_any (nat_eq name) (drop start now)) [] (name ∷ []) → AreNamed before (names ++ name ∷ []) next
-named_more before names now next start name are start_is next_is =
-    let mine : drop start now ≡ are.more = ap (drop start) are.joined ∙ drop_at before are.more start (sym start_is) in
-    let last : List ℕ = cond (list_any (nat_eq name) are.more) [] (name ∷ []) in
-    record {
-      more = are.more ++ last;
-      joined = next_is
-          ∙ ap₂ (λ (front ns : List ℕ). front ++ cond (list_any (nat_eq name) ns) [] (name ∷ [])) are.joined mine
-          ∙ append_assoc before are.more last;
-      same = λ k. once_more names are.more name are.same k (list_any (nat_eq name) are.more) refl;
-    }
+pub named_more : (names now next : List ℕ) (name : ℕ) → AreSame names now
+    → next ≡ now ++ cond (list_any (nat_eq name) now) [] (name ∷ []) → AreSame (names ++ name ∷ []) next
+named_more names now next name are next_is = record {
+  same = λ k. ap (list_any (nat_eq k)) next_is ∙ once_more names now name are.same k (list_any (nat_eq name) now) refl;
+}
+
+-- a lead has names
+pub some_numbers : (numbers : List ℕ) (rung : RungLead) → IsHeld (length numbers) rung → 0 < length (rung_numbers numbers rung)
+some_numbers numbers rung held =
+    let left : rung.end - rung.start ≤ length (drop rung.start numbers) = omega (arith, held.0, held.1, length-drop rung.start numbers) in
+    omega (arith, held.0, length-take-le (rung.end - rung.start) (drop rung.start numbers) left)
+
+pub some_names : (name : ℕ → ℕ) (ns names : List ℕ) → 0 < length ns → AreSame (map name ns) names → 0 < length names
+some_names name [] names some same = absurd (omega (arith, some))
+some_names name (n ∷ ns) [] some same = absurd (false≢true (same.same (name n) ∙ or_left (nat_eq (name n) (name n)) (list_any (nat_eq (name n)) (map name ns)) (eq-eqb (name n) (name n) refl)))
+some_names name (n ∷ ns) (m ∷ names) some same = omega arith
+
+-- three of them are near, or the first one again
+pub near_are : (names : List ℕ) → 0 < length names → AreNear names (get_or names 0 0 ∷ get_or names 1 (get_or names 0 0) ∷ get_or names 2 (get_or names 0 0) ∷ [])
+near_are [] some = absurd (omega (arith, some))
+near_are (a ∷ []) some = record { same = λ k. once (nat_eq k a) }
+  where
+    once : (x : Bool) → (x || (x || (x || false))) ≡ (x || false)
+    once true = refl
+    once false = refl
+near_are (a ∷ b ∷ []) some = record { same = λ k. twice (nat_eq k a) (nat_eq k b) }
+  where
+    twice : (x y : Bool) → (x || (y || (x || false))) ≡ (x || (y || false))
+    twice true y = refl
+    twice false y = refl
+near_are (a ∷ b ∷ c ∷ names) some = record { same = λ k. refl }
 
 -- one lead more
-all_among : (P : ℕ → Type 0) (names more : List ℕ) → ((k : ℕ) → list_any (nat_eq k) more ≡ list_any (nat_eq k) names) → All P names → All P more
-all_among P names more same all = λ i d low.
+all_among : (P : ℕ → Type 0) (names more : List ℕ) → ((k : ℕ) → list_any (nat_eq k) more ≡ true → list_any (nat_eq k) names ≡ true) → All P names → All P more
+all_among P names more among all = λ i d low.
     let k = get_or more i d in
-    holds_among P names k all (sym (same k) ∙ list_any_at (nat_eq k) more i d low (eq-eqb k k refl))
+    holds_among P names k all (among k (list_any_at (nat_eq k) more i d low (eq-eqb k k refl)))
 
 still_named : (numbers : List ℕ) (name : ℕ → ℕ) (names more later : List ℕ) (rung : RungLead) (lead : LeadRecord) → later ≡ names ++ more
     → IsNamed numbers name names rung lead → IsNamed numbers name later rung lead
@@ -131,40 +150,55 @@ still_named numbers name names more later rung lead joined is =
     record {
       like = is.like;
       within = omega (arith, is.within, ap length joined, length-append names more);
-      same = λ n. ap (list_any (nat_eq n)) mine ∙ is.same n;
+      same = λ n. ap (λ (ns : List ℕ). list_any (nat_eq n) (lead.near ++ ns)) mine ∙ is.same n;
     }
 
-pub all_named_more : (numbers : List ℕ) (name : ℕ → ℕ) (below : ℕ) (rung : List RungLead) (leads next : List LeadRecord) (names later : List ℕ) (done : ℕ) (one : RungLead) (lead : LeadRecord)
-    → AreAllNamed numbers name below rung leads names done → done < length rung → one ≡ get_or rung done one
-    → AreNamed names (map name (rung_numbers numbers one)) later → All (λ n. n < below) (map name (rung_numbers numbers one))
-    → IsLike one lead → lead.start ≡ length names → lead.start + lead.count ≡ length later → next ≡ leads ++ lead ∷ []
-    → AreAllNamed numbers name below rung next later (done + 1)
-all_named_more numbers name below rung leads next names later done one lead are inside one_is added low_names like start_is end_is next_is =
-    let grown : length later ≡ length names + length added.more = ap length added.joined ∙ length-append names added.more in
-    let mine : take lead.count (drop lead.start later) ≡ added.more =
-    ap (λ (ns : List ℕ). take lead.count (drop lead.start ns)) added.joined
-    ∙ ap (take lead.count) (drop_at names added.more lead.start (sym start_is))
-    ∙ take_all lead.count added.more (omega (arith, start_is, end_is, grown)) in
-    let here : IsNamed numbers name later one lead = record {
-      like = like;
-      within = omega (arith, end_is);
-      same = λ n. ap (list_any (nat_eq n)) mine ∙ added.same n;
-    } in
-    record {
-      long = ap length next_is ∙ length_push leads lead ∙ ap (λ n. n + 1) are.long;
-      within = All-same (λ n. n < below) later (names ++ added.more) added.joined
-          (All-append (λ n. n < below) names added.more are.within
-          (all_among (λ n. n < below) (map name (rung_numbers numbers one)) added.more added.same low_names));
-      each = λ i d e low. elim (cases_eq i done) [
-        | inl last ↦
-            let rung_is : get_or rung i d ≡ one = ap (λ n. get_or rung n d) last ∙ get_or_default rung done d one inside ∙ sym one_is in
-            let lead_is : get_or next i e ≡ lead = ap₂ (λ (xs : List LeadRecord) (n : ℕ). get_or xs n e) next_is last ∙ get_or_push leads lead e done are.long in
-            subst (λ (r : RungLead). IsNamed numbers name later r (get_or next i e)) (sym rung_is)
-            (subst (IsNamed numbers name later one) (sym lead_is) here)
-        | inr other ↦
-            let earlier : i < done = omega (arith, low, other) in
-            let lead_is : get_or next i e ≡ get_or leads i e = ap (λ (xs : List LeadRecord). get_or xs i e) next_is ∙ get_or_append_left leads (lead ∷ []) e i (omega (arith, earlier, are.long)) in
-            subst (IsNamed numbers name later (get_or rung i d)) (sym lead_is)
-            (still_named numbers name names added.more later (get_or rung i d) (get_or leads i e) added.joined (are.each i d e earlier))
-      ];
-    }
+module _ (numbers : List ℕ) (name : ℕ → ℕ) (below : ℕ) (rung : List RungLead) (leads next : List LeadRecord) (listed later names : List ℕ) (done : ℕ) (one : RungLead) (lead : LeadRecord)
+    (are : AreAllNamed numbers name below rung leads listed done) (inside : done < length rung) (one_is : one ≡ get_or rung done one)
+    (same : AreSame (map name (rung_numbers numbers one)) names) (low_names : All (λ n. n < below) (map name (rung_numbers numbers one)))
+    (like : IsLike one lead) (start_is : lead.start ≡ length listed) (count_is : lead.count ≡ length (drop 3 names)) (near : AreNear names lead.near)
+    (later_is : later ≡ listed ++ drop 3 names) (next_is : next ≡ leads ++ lead ∷ []) where
+  grown : length later ≡ length listed + length (drop 3 names)
+  grown = ap length later_is ∙ length-append listed (drop 3 names)
+
+  mine : take lead.count (drop lead.start later) ≡ drop 3 names
+  mine =
+      ap (λ (ns : List ℕ). take lead.count (drop lead.start ns)) later_is
+      ∙ ap (take lead.count) (drop_at listed (drop 3 names) lead.start (sym start_is))
+      ∙ take_all lead.count (drop 3 names) (omega (arith, count_is))
+
+  here : IsNamed numbers name later one lead
+  here = record {
+    like = like;
+    within = omega (arith, start_is, count_is, grown);
+    same = λ n. ap (λ (ns : List ℕ). list_any (nat_eq n) (lead.near ++ ns)) mine ∙ near.same n ∙ same.same n;
+  }
+
+  low_now : All (λ n. n < below) names
+  low_now = all_among (λ n. n < below) (map name (rung_numbers numbers one)) names (λ k among. sym (same.same k) ∙ among) low_names
+
+  low_near : All (λ n. n < below) lead.near
+  low_near = all_among (λ n. n < below) names lead.near (λ k among.
+      sym (near.same k) ∙ list_any-append (nat_eq k) lead.near (drop 3 names)
+      ∙ or_left (list_any (nat_eq k) lead.near) (list_any (nat_eq k) (drop 3 names)) among) low_now
+
+  pub all_named_more : AreAllNamed numbers name below rung next later (done + 1)
+  all_named_more = record {
+    long = ap length next_is ∙ length_push leads lead ∙ ap (λ n. n + 1) are.long;
+    near = All-same (λ (l : LeadRecord). All (λ n. n < below) l.near) next (leads ++ lead ∷ []) next_is
+        (All-push (λ (l : LeadRecord). All (λ n. n < below) l.near) leads lead are.near low_near);
+    within = All-same (λ n. n < below) later (listed ++ drop 3 names) later_is
+        (All-append (λ n. n < below) listed (drop 3 names) are.within (All-drop (λ n. n < below) 3 names low_now));
+    each = λ i d e low. elim (cases_eq i done) [
+      | inl last ↦
+          let rung_is : get_or rung i d ≡ one = ap (λ n. get_or rung n d) last ∙ get_or_default rung done d one inside ∙ sym one_is in
+          let lead_is : get_or next i e ≡ lead = ap₂ (λ (xs : List LeadRecord) (n : ℕ). get_or xs n e) next_is last ∙ get_or_push leads lead e done are.long in
+          subst (λ (r : RungLead). IsNamed numbers name later r (get_or next i e)) (sym rung_is)
+          (subst (IsNamed numbers name later one) (sym lead_is) here)
+      | inr other ↦
+          let earlier : i < done = omega (arith, low, other) in
+          let lead_is : get_or next i e ≡ get_or leads i e = ap (λ (xs : List LeadRecord). get_or xs i e) next_is ∙ get_or_append_left leads (lead ∷ []) e i (omega (arith, earlier, are.long)) in
+          subst (IsNamed numbers name later (get_or rung i d)) (sym lead_is)
+          (still_named numbers name listed (drop 3 names) later (get_or rung i d) (get_or leads i e) later_is (are.each i d e earlier))
+    ];
+  }

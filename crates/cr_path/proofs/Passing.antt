@@ -113,7 +113,7 @@ module _ (p : ProblemParts) (t : NumberParts) (numbered : IsNumbered p t) where
     any_told : some_marked marks numbers ≡ list_any (is_listed rows) (rows_from (get_or t.heads head []) (changes_of p step))
     any_told =
         ap (some_marked marks) (its ∙ ap (numbers_of t) found)
-        ∙ some_are t.rows rows marks (numbers_of t (get_or t.records (head * t.steps + step) lead)) are (within_in p t numbered (get_or t.records (head * t.steps + step) lead))
+        ∙ some_are t.rows rows marks (numbers_of t (get_or t.records (head * t.steps + step) lead)) are (within_in p t numbered (get_or t.records (head * t.steps + step) lead) (numbered.each head step lead is.numbered (subst (λ n. step < n) (sym numbered.counted) inside)).near)
         ∙ sym (told head step lead is.numbered (subst (λ n. step < n) (sym numbered.counted) inside))
         ∙ ap (list_any (is_listed rows)) (sym (lead_rung p (get_or t.heads head []) step is.long))
 

@@ -20,6 +20,7 @@ use Rattle.cr_path.specs.Rung.{RungParts, IsHeld, IsRungLead, IsRung}
 use Rattle.cr_path.specs.Numbering.{IsKept, HasNumber, AreNumbered, IsBegun}
 use Rattle.cr_path.specs.Leads.{has_first}
 use Rattle.cr_path.specs.declared.numbering.RungLead.{RungLead}
+use Rattle.cr_path.proofs.Children.{lead_long}
 use Rattle.cr_path.proofs.Places.{record_within}
 use Rattle.cr_path.proofs.Grown.{kept_by, heads_more, same_rows, all_kept}
 
@@ -102,8 +103,14 @@ pub record RingsLead (p : ProblemParts) (old new : RungParts) (head : List ℕ) 
   pub end : lead.end ≡ length new.numbers
   pub limit : (rung : ℕ) → nat_lt rung lead.limit ≡ not (dies_after p head step rung)
   pub counted : lead.length ≡ lead_length p step
+  pub some : 0 < lead.length
   pub twice : lead.twice ≡ not (rows_differ (rows_of p (step ∷ [])))
   pub records : new.records ≡ old.records ++ lead ∷ []
+
+-- it has a row
+some_more : (p : ProblemParts) (old new : RungParts) (head : List ℕ) (step : ℕ) (lead : RungLead) → (is : RingsLead p old new head step lead) → 0 < length is.rows.more
+some_more p old new head step lead is =
+    omega (arith, is.some, is.counted, lead_long p head step, ap length is.rows.are, length-map is.rows.more (λ number. get_or new.rows number []))
 
 -- it is a record
 pub rung_record : (p : ProblemParts) (old new : RungParts) (head : List ℕ) (step : ℕ) (lead : RungLead) → RingsLead p old new head step lead
@@ -120,7 +127,7 @@ rung_record p old new head step lead is =
       limit = is.limit;
       long = is.counted;
       twice = is.twice;
-      held = (omega (arith, is.start, is.end, long), omega (arith, is.end));
+      held = (omega (arith, is.start, is.end, long, some_more p old new head step lead is), omega (arith, is.end));
       are = ap (map (λ number. get_or new.rows number [])) mine ∙ is.rows.are;
     }
 
@@ -153,7 +160,7 @@ begun_more p old new place step done lead begun at place_in step_in is =
       held = All-same (IsHeld (length new.numbers)) new.records (old.records ++ lead ∷ []) is.records
           (All-push (IsHeld (length new.numbers)) old.records lead
           (All-weaker (IsHeld (length old.numbers)) (IsHeld (length new.numbers)) (λ other held. (held.0, omega (arith, held.1, more))) old.records begun.held)
-          (omega (arith, is.start, is.end, more), omega (arith, is.end)));
+          (omega (arith, is.start, is.end, ap length is.rows.joined, length-append old.numbers is.rows.more, some_more p old new (get_or old.heads place []) step lead is), omega (arith, is.end)));
       each = λ other its d head_in its_in low.
           let known : its < old.steps = omega (arith, its_in, is.steps) in
           let index : other * new.steps + its ≡ other * old.steps + its = ap (λ n. other * n + its) is.steps in
@@ -189,6 +196,7 @@ rung_whole p t done begun all = record {
   counted = begun.counted;
   some_head = begun.heads.some;
   first_head = begun.heads.first;
+  staged = begun.heads.staged;
   some_row = begun.some_row;
   first_row = begun.first_row;
   differ = begun.differ;

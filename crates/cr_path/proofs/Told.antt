@@ -1,5 +1,5 @@
 -- Telling rows of leads that were rung are numbers of the problem.
-use Rattle.std.proofs.Common.{◌≡◌, ℕ, ◌+◌, ◌-◌, ◌*◌, ◌<◌, Bool, true, nat_eq, nat_lt, List, [], length, get_or, map, take, drop, refl, sym, ap, ap₂, ◌∙◌, subst, arith, eq-eqb, eqb-true}
+use Rattle.std.proofs.Common.{◌≡◌, ℕ, ◌+◌, ◌-◌, ◌*◌, ◌<◌, Bool, true, nat_eq, nat_lt, List, [], ◌++◌, length, get_or, map, take, drop, refl, sym, ap, ap₂, ◌∙◌, subst, arith, eq-eqb, eqb-true}
 use Rattle.std.specs.Prelude.{All}
 use Rattle.std.specs.List.{list_any}
 use Rattle.std.proofs.lemmas.List.Elements.{All-take, All-drop, All-weaker}
@@ -7,7 +7,7 @@ use Rattle.cr_model.specs.Problems.{ProblemParts}
 use Rattle.cr_model.specs.Levels.{is_listed}
 use Rattle.cr_rowset.specs.Pushing.{StandsAt}
 use Rattle.cr_path.specs.Covers.{CoversItself, IsCovered, StaysWithin, IsCover}
-use Rattle.cr_path.specs.Numbers.{NumberParts, lead_from, IsRecord, IsTold, IsNumbered}
+use Rattle.cr_path.specs.Numbers.{NumberParts, lead_from, all_fitting, IsRecord, IsTold, IsNumbered}
 use Rattle.cr_path.specs.Rung.{RungParts, rung_numbers, IsRungLead, IsRung}
 use Rattle.cr_path.specs.Telling.{AreTelling, name_of, HasName, IsNamed, AreAllNamed}
 use Rattle.cr_path.specs.declared.numbering.RungLead.{RungLead}
@@ -97,9 +97,10 @@ module _ (p : ProblemParts) (t : RungParts) (rung : IsRung p t) (cover : List �
         any_at in_other at ns (get_or cover n 0) (cover_among ns ns_in ns_stay n from.1)
         (ap in_other (sym (ap told_at from.2 ∙ row_of_name ns ns_in ns_stay n from.1)) ∙ found.2))
 
-  module _ (records : List LeadRecord) (names : List ℕ) (named : AreAllNamed t.numbers name (length telling) t.records records names (length t.records)) where
+  module _ (records : List LeadRecord) (names : List ℕ) (named : AreAllNamed t.numbers name (length telling) t.records records names (length t.records))
+      (fittings : List (List ℕ)) (fitting : fittings ≡ map (all_fitting p t.heads) p.query.patterns) where
     abbrev whole : NumberParts
-    whole = record { steps = t.steps; heads = t.heads; rows = telling; records = records; numbers = names }
+    whole = record { steps = t.steps; heads = t.heads; rows = telling; records = records; numbers = names; fittings = fittings }
 
     -- the lead of a step from a head
     module _ (head step : ℕ) (head_in : head < length t.heads) (step_in : step < t.steps) where
@@ -139,6 +140,7 @@ module _ (p : ProblemParts) (t : RungParts) (rung : IsRung p t) (cover : List �
           limit = λ changes. ap (nat_lt changes) is_named.like.limit ∙ is_rung.limit changes;
           long = is_named.like.long ∙ is_rung.long;
           twice = is_named.like.twice ∙ is_rung.twice;
+          near = named.near place d (omega (arith, low, named.long));
           within = is_named.within;
           are = λ k inside. is_named.same k ∙ names_listed lead_numbers numbers_in numbers_stay k inside
               ∙ ap (λ (rows : List (List ℕ)). is_listed rows (told_at k)) is_rung.are;
@@ -149,7 +151,7 @@ module _ (p : ProblemParts) (t : RungParts) (rung : IsRung p t) (cover : List �
         let mine : map at (lead_numbers head step head_in step_in) ≡ lead_from p (get_or t.heads head []) step = (is_rung head step head_in step_in).are in
         let theirs : map at (lead_numbers other its other_in its_in) ≡ lead_from p (get_or t.heads other []) its = (is_rung other its other_in its_in).are in
         let one = lead other its other_in its_in d in
-        let names_now : List ℕ = take one.count (drop one.start names) in
+        let names_now : List ℕ = one.near ++ take one.count (drop one.start names) in
         ap₂ (λ (rows more : List (List ℕ)). list_any (is_listed rows) more) (sym mine) (sym theirs)
         ∙ names_tell (lead_numbers other its other_in its_in) (lead_numbers head step head_in step_in) names_now
         (numbers_in other its other_in its_in) (numbers_in head step head_in step_in) (numbers_stay other its other_in its_in) (numbers_stay head step head_in step_in)
@@ -169,4 +171,5 @@ module _ (p : ProblemParts) (t : RungParts) (rung : IsRung p t) (cover : List �
           within = named.within;
           each = λ head step d head_in step_in. is_record head step head_in step_in d;
           told = lead_told;
+          fitting = fitting;
         }

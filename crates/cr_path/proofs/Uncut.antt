@@ -1,14 +1,25 @@
 -- The steps by which the children of a node are not cut.
-use Rattle.std.proofs.Common.{◌≡◌, ◌≢◌, ℕ, ◌+◌, ◌<◌, ◌≤◌, true, false, not, List, length, sym, ◌∙◌, subst, inl, inr, arith}
+use Rattle.std.proofs.Common.{◌≡◌, ◌≢◌, ℕ, ◌+◌, ◌<◌, ◌≤◌, true, false, not, List, length, sym, ap, ◌∙◌, subst, inl, inr, arith}
 use Rattle.std.proofs.lemmas.Bool.{cases_eq, not-true, not-false}
 use Rattle.cr_model.specs.Problems.{ProblemParts}
+use Rattle.cr_model.specs.Dead.{is_turned_back}
 use Rattle.cr_model.specs.Sizes.{most_rows, child}
 use Rattle.cr_model.specs.Sound.{IsSound, sound_steps}
 use Rattle.cr_path.specs.Living.{is_cut, AreCut, IsFirst}
-use Rattle.cr_path.specs.Sets.{has_step, AreUncut, AreSeen}
+use Rattle.cr_path.specs.Sets.{has_step, is_known, AreUncut, AreSeen}
+use Rattle.cr_path.proofs.Living.{turned_cut}
 
 pub few_steps : (p : ProblemParts) → IsSound p → length p.leads ≤ 24
 few_steps p sound = sound_steps p sound
+
+-- the steps before the first one by which the node does not turn back are cut
+pub seen_turned : (p : ProblemParts) (node : List ℕ) (first set : ℕ) → is_known set ≡ true → ((step : ℕ) → step < 31 → has_step set step ≡ false) → first ≤ 24
+    → ((step : ℕ) → step < first → is_turned_back p (child node step) ≡ true) → AreSeen p node first set
+seen_turned p node first set known none few turned = record {
+  known = known;
+  seen = λ step below. none step (omega (arith, below, few)) ∙ sym (ap not (turned_cut p most_rows (child node step) (turned step below)));
+  free = λ step high below. none step below;
+}
 
 -- one step more
 pub seen_more : (p : ProblemParts) (node : List ℕ) (end set more : ℕ) → AreSeen p node end set → end < 31 → has_step more end ≡ not (is_cut p most_rows (child node end))

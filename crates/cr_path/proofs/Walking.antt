@@ -55,10 +55,10 @@ module _ (p : ProblemParts) (leads : TableParts) (t : NumberParts) (node : List 
       lead_known p t is.numbered (parent node) end step lead at_end (step_known p (parent node) step (subst (IsValid p) (last_step node step index some last at_step) is.valid)) found
 
   -- numbers of a lead have marks
-  pub have_marks : (lead : LeadRecord) (numbers : List ℕ) → numbers ≡ numbers_of t lead → All (λ number. number < length marks) numbers
-  have_marks lead numbers are =
+  pub have_marks : (lead : LeadRecord) (numbers : List ℕ) → All (λ number. number < length t.rows) lead.near → numbers ≡ numbers_of t lead → All (λ number. number < length marks) numbers
+  have_marks lead numbers near are =
       subst (λ n. All (λ number. number < n) numbers) (sym is.marked.counted)
-      (subst (λ list. All (λ number. number < length t.rows) list) (sym are) (within_in p t is.numbered lead))
+      (subst (λ list. All (λ number. number < length t.rows) list) (sym are) (within_in p t is.numbered lead near))
 
   pub few_fresh : fresh ≤ 1024
   few_fresh = omega (arith, is.marked.within, few_leads p node is.sound is.valid)

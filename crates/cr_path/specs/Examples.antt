@@ -1,13 +1,13 @@
 -- The numbers of Plain Bob Minimus, two leads that have rows in common, and problems of its lead with another query.
-use Rattle.std.specs.Prelude.{ℕ, false, [], ◌∷◌}
+use Rattle.std.specs.Prelude.{ℕ, ◌+◌, false, [], ◌∷◌}
 use Rattle.cr_model.specs.Problems.{QueryParts, ProblemParts}
 use Rattle.cr_model.specs.Examples.{minimus, pair, asks}
 use Rattle.cr_path.specs.declared.table.LeadRecord.{LeadRecord}
 use Rattle.cr_path.specs.Numbers.{NumberParts}
 
--- the record of a lead of eight changes, true in itself
-abbrev pub lead_at : ℕ → ℕ → ℕ → ℕ → LeadRecord
-lead_at next start limit count = record { next = next; start = start; limit = limit; count = count; length = 8; twice = false }
+-- the record of a lead of eight changes, true in itself and with one telling row
+abbrev pub lead_at : ℕ → ℕ → ℕ → LeadRecord
+lead_at next number limit = record { next = next; near = number ∷ number ∷ number ∷ []; start = 0; limit = limit; count = 0; length = 8; twice = false }
 
 -- three heads, and three telling rows: rounds, which is the last row of the third lead, and the first rows of the other two. No two leads have a row in common. Home is two leads from the end of the first lead, and one from that of the second
 abbrev pub minimus_numbers : NumberParts
@@ -15,8 +15,9 @@ minimus_numbers = record {
   steps = 1;
   heads = (1 ∷ 2 ∷ 3 ∷ 4 ∷ []) ∷ (1 ∷ 3 ∷ 4 ∷ 2 ∷ []) ∷ (1 ∷ 4 ∷ 2 ∷ 3 ∷ []) ∷ [];
   rows = (1 ∷ 2 ∷ 3 ∷ 4 ∷ []) ∷ (2 ∷ 1 ∷ 4 ∷ 3 ∷ []) ∷ (3 ∷ 1 ∷ 2 ∷ 4 ∷ []) ∷ [];
-  records = lead_at 1 0 1 1 ∷ lead_at 2 1 9 1 ∷ lead_at 0 2 17 1 ∷ [];
-  numbers = 1 ∷ 2 ∷ 0 ∷ [];
+  records = lead_at 1 1 1 ∷ lead_at 2 2 9 ∷ lead_at 0 0 17 ∷ [];
+  numbers = [];
+  fittings = [];
 }
 
 -- two leads from rounds, with and without a call. Their first seven rows are the same and their last rows differ. The first lead has one telling row, the first or the last of its own, and the second has the first
@@ -24,12 +25,13 @@ abbrev pub called : ProblemParts
 called = pair (asks 1 24 1)
 
 abbrev pub called_numbers : ℕ → NumberParts
-called_numbers start = record {
+called_numbers place = record {
   steps = 2;
   heads = (1 ∷ 2 ∷ 3 ∷ 4 ∷ []) ∷ [];
   rows = (1 ∷ 2 ∷ 3 ∷ 4 ∷ []) ∷ (2 ∷ 1 ∷ 4 ∷ 3 ∷ []) ∷ (1 ∷ 3 ∷ 4 ∷ 2 ∷ []) ∷ [];
-  records = lead_at 0 start 1 1 ∷ lead_at 0 0 1 1 ∷ [];
-  numbers = 1 ∷ 2 ∷ [];
+  records = lead_at 0 (place + 1) 1 ∷ lead_at 0 1 1 ∷ [];
+  numbers = [];
+  fittings = [];
 }
 
 -- Plain Bob Minimus with another query

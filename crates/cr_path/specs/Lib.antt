@@ -14,3 +14,4 @@ pub mod Living
 pub mod Parts
 pub mod Sets
 pub mod Counted
+pub mod Best

@@ -23,9 +23,9 @@ rung_numbers numbers lead = take (lead.end - lead.start) (drop lead.start number
 abbrev pub rung_rows : RungParts → RungLead → List (List ℕ)
 rung_rows t lead = map (λ number. get_or t.rows number []) (rung_numbers t.numbers lead)
 
--- the numbers of a lead stand among so many
+-- a lead has one number or more, and they stand among so many
 abbrev pub IsHeld : ℕ → RungLead → Type 0
-IsHeld long lead = (lead.start ≤ lead.end) × (lead.end ≤ long)
+IsHeld long lead = (lead.start < lead.end) × (lead.end ≤ long)
 
 -- a record of a step that is rung from a head: the head that it leads to, the length below which it may live, its number of changes, whether it has a row twice in itself, and the numbers of its rows
 pub record IsRungLead (p : ProblemParts) (t : RungParts) (head : List ℕ) (step : ℕ) (lead : RungLead) : Type 0 where
@@ -42,6 +42,7 @@ pub record IsRung (p : ProblemParts) (t : RungParts) : Type 0 where
   pub counted : t.steps ≡ length p.leads
   pub some_head : 0 < length t.heads
   pub first_head : get_or t.heads 0 [] ≡ rounds p.stage
+  pub staged : All (λ head. length head ≡ p.stage) t.heads
   pub some_row : 0 < length t.rows
   pub first_row : get_or t.rows 0 [] ≡ rounds p.stage
   pub differ : AllDiffer t.rows

@@ -21,11 +21,13 @@ name_of cover places row = get_or places (get_or cover row 0) 0
 abbrev pub HasName : List ℕ → List ℕ → ℕ → ℕ → Type 0
 HasName cover places below row = (row < length cover) × (get_or cover row 0 < length places) × (name_of cover places row < below)
 
--- names that are listed after others
-pub record AreNamed (before names now : List ℕ) : Type 0 where
-  pub more : List ℕ
-  pub joined : now ≡ before ++ more
-  pub same : (name : ℕ) → list_any (nat_eq name) more ≡ list_any (nat_eq name) names
+-- the same numbers stand in both lists
+pub record AreSame (names now : List ℕ) : Type 0 where
+  pub same : (name : ℕ) → list_any (nat_eq name) now ≡ list_any (nat_eq name) names
+
+-- with those from the fourth on they are some names, and none else
+abbrev pub AreNear : List ℕ → List ℕ → Type 0
+AreNear names near = AreSame names (near ++ drop 3 names)
 
 -- what a lead keeps of the one that was rung
 pub record IsLike (rung : RungLead) (lead : LeadRecord) : Type 0 where
@@ -38,10 +40,11 @@ pub record IsLike (rung : RungLead) (lead : LeadRecord) : Type 0 where
 pub record IsNamed (numbers : List ℕ) (name : ℕ → ℕ) (names : List ℕ) (rung : RungLead) (lead : LeadRecord) : Type 0 where
   pub like : IsLike rung lead
   pub within : lead.start + lead.count ≤ length names
-  pub same : (n : ℕ) → list_any (nat_eq n) (take lead.count (drop lead.start names)) ≡ list_any (nat_eq n) (map name (rung_numbers numbers rung))
+  pub same : (n : ℕ) → list_any (nat_eq n) (lead.near ++ take lead.count (drop lead.start names)) ≡ list_any (nat_eq n) (map name (rung_numbers numbers rung))
 
 -- the first so many leads, by names below a number
 pub record AreAllNamed (numbers : List ℕ) (name : ℕ → ℕ) (below : ℕ) (rung : List RungLead) (leads : List LeadRecord) (names : List ℕ) (done : ℕ) : Type 0 where
   pub long : length leads ≡ done
+  pub near : All (λ (lead : LeadRecord). All (λ n. n < below) lead.near) leads
   pub within : All (λ n. n < below) names
   pub each : (i : ℕ) (d : RungLead) (e : LeadRecord) → i < done → IsNamed numbers name names (get_or rung i d) (get_or leads i e)

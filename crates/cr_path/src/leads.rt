@@ -6,6 +6,7 @@ ghost use Rattle.cr_row.specs.Rows.{rounds};
 ghost use Rattle.cr_model.specs.Callings.{rows_of, changes_at, lead_length, shortest};
 ghost use Rattle.cr_model.specs.Levels.{at_least};
 ghost use Rattle.cr_model.specs.Sizes.{most_rows};
+ghost use Rattle.cr_model.specs.Right.{FitsStage, pattern_at};
 ghost use Rattle.cr_leads.specs.Tables.{lead_table};
 ghost use Rattle.cr_reach.specs.Tables.{reach_table};
 ghost use Rattle.cr_path.specs.Numbers.{lead_from, head_after, brings_home, dies_after};
@@ -14,9 +15,9 @@ ghost use Rattle.cr_path.specs.Leads.{has_first};
 
 use crate::facts::Facts;
 use cr_leads::LeadTable;
-use cr_model::{Lead, Problem};
+use cr_model::{Lead, Pattern, Problem, Query};
 use cr_reach::ReachTable;
-use cr_row::{NoMemory, Row};
+use cr_row::{NoMemory, Row, Stage};
 use std::alloc::Global;
 use std::marker::Model;
 
@@ -91,6 +92,21 @@ impl<'a> Leads<'a> {
         Row::rounds(self.problem.stage())
     }
 
+    /// The stage.
+    pub fn stage(&self) -> Stage
+        ensures { result ≡ self.now.stage }
+    {
+        self.problem.stage()
+    }
+
+    /// The patterns of the query.
+    pub fn patterns(&self) -> &[Pattern]
+        ensures is { result.now ≡ self.now.query.patterns }
+        ensures fit { (i : ℕ) → i < length result.now → FitsStage self.now.stage (pattern_at result.now i).cells }
+    {
+        patterns_of(self.problem.query())
+    }
+
     /// The rows of a step that is rung from rounds.
     #[tactic(auto, using(cr_leads::specs::Tables::leads_counted))]
     pub fn rows_of(&self, step: u8) -> &[Row]
@@ -147,10 +163,11 @@ impl<'a> Leads<'a> {
     }
 
     /// The number of changes of a step.
-    #[tactic(auto, using(crate::proofs::Bounds::lead_few))]
+    #[tactic(auto, using(crate::proofs::Bounds::lead_few, crate::proofs::Children::some_changes))]
     pub fn length_of(&self, step: u8) -> u8
         requires { step < length self.now.leads }
         ensures is { result ≡ lead_length self.now step }
+        ensures some { 0 < result }
         ensures few { result ≤ 128 }
     {
         lead_length(self.problem.leads(), step) as u8
@@ -163,6 +180,13 @@ impl<'a> Leads<'a> {
     {
         self.facts.shortest * u64::from(self.reach.at_least(head))
     }
+}
+
+// The patterns of a query.
+fn patterns_of(query: &Query) -> &[Pattern]
+    ensures { result.now ≡ query.now.patterns }
+{
+    query.patterns.as_slice()
 }
 
 // The number of changes of a lead.

@@ -5,6 +5,7 @@ mod counting;
 mod covers;
 mod ends;
 mod facts;
+mod fittings;
 mod growing;
 mod heads;
 mod laws;
@@ -19,6 +20,7 @@ mod sets;
 mod stopped;
 mod table;
 mod telling;
+mod turning;
 mod walk;
 
 pub use laws::{

@@ -69,7 +69,7 @@ fn pass_part(
     let mut head = from;
     for step in node {
         let lead = numbers.lead(head, *step);
-        if marks.has_some(numbers.numbers_of(lead)) {
+        if marks.has_some(lead.near, numbers.further_of(lead)) {
             return None;
         }
         head = lead.next;

@@ -256,12 +256,31 @@ impl<'a> Path<'a> {
         ensures known { is_known result ≡ true }
         ensures are { AreUncut self.now.problem self.now.node result }
     {
+        let first = self.first_straight();
         let mut uncut = no_steps();
-        for step in 0..self.step_count() {
+        for step in first..self.step_count() {
             let lead = self.lead_after(end, step);
             uncut = with_step(uncut, step, !self.is_cut(end, step, lead));
         }
         uncut
+    }
+
+    // The least step by which the child does not turn back, or the number of steps. Where the query is the same for all
+    // rotations, the children by all lesser steps turn back, and those by greater ones do not.
+    #[tactic(auto, using(crate::proofs::Turns::straight_above))]
+    fn first_straight(&self) -> u8
+        ensures few { result ≤ length self.now.problem.leads }
+        ensures turned { (step : ℕ) → step < result → is_turned_back self.now.problem (child self.now.node step) ≡ true }
+        ensures straight { (step : ℕ) → result ≤ step → step < length self.now.problem.leads
+            → is_turned_back self.now.problem (child self.now.node step) ≡ false }
+    {
+        let count = self.step_count();
+        for step in 0..count {
+            if !self.is_turned_back(step) {
+                return step;
+            }
+        }
+        count
     }
 
     // The number of steps of the problem.
@@ -290,19 +309,21 @@ impl<'a> Path<'a> {
         self.numbers.lead(end.head, step)
     }
 
-    // Whether the child of a clean node by a step is dead, but for rows that fit patterns.
+    // Whether the child of a clean node by a step, which does not turn back, is dead, but for rows that fit patterns.
     fn is_cut(&self, end: LeadEnd, step: u8, lead: LeadRecord) -> bool
         requires clean { is_clean self.now.problem self.now.node ≡ true }
         requires end { IsEnd self.now.problem self.now.numbers self.now.node end }
         requires step { step < length self.now.problem.leads }
         requires lead { IsLead self.now.problem self.now.numbers self.now.node step lead }
+        requires straight { is_turned_back self.now.problem (child self.now.node step) ≡ false }
         ensures { result ≡ is_cut self.now.problem most_rows (child self.now.node step) }
     {
         // Nothing is left out, which takes less time than to leave early.
         let is_late = end.rung >= u32::from(lead.limit);
-        let is_again = self.marks.has_some(self.numbers.numbers_of(lead));
-        let is_turned = self.is_turned_back(step);
-        is_late | is_again | is_turned || self.counting.is_hopeless_with(step)
+        let is_again = self
+            .marks
+            .has_some(lead.near, self.numbers.further_of(lead));
+        is_late | is_again || self.counting.is_hopeless_with(step)
     }
 
     // Whether the child by a step turns back, if the query is the same for all rotations.
@@ -358,7 +379,10 @@ impl<'a> Path<'a> {
         if self.has_repeat() {
             return false;
         }
-        !lead.twice && !self.marks.has_some(self.numbers.numbers_of(lead))
+        !lead.twice
+            && !self
+                .marks
+                .has_some(lead.near, self.numbers.further_of(lead))
     }
 
     // Goes to the child by a step, of whose rows it is known whether they differ.
@@ -370,7 +394,8 @@ impl<'a> Path<'a> {
         ensures { self.new ≡ path_from self.old.problem self.old.numbers (child self.old.node step) }
     {
         let end = self.ends.last();
-        self.marks.add(self.numbers.numbers_of(lead), is_new);
+        self.marks
+            .add(lead.near, self.numbers.further_of(lead), is_new);
         self.counting
             .add_lead(self.leads, self.numbers, end.head, step);
         self.ends.push(LeadEnd {
@@ -391,7 +416,8 @@ impl<'a> Path<'a> {
         self.ends.pop();
         let end = self.ends.last();
         let lead = self.numbers.lead(end.head, step);
-        self.marks.take_back(number, self.numbers.numbers_of(lead));
+        self.marks
+            .take_back(number, lead.near, self.numbers.further_of(lead));
         self.counting
             .take_back(self.leads, self.numbers, end.head, step);
         self.steps.pop();

@@ -24,6 +24,13 @@ const MINIMUS: Draft = Draft {
     leads: &[(b'p', b"x.14.x.14.x.14.x.12")],
 };
 
+// Two leads of four changes.
+const FOURS: Draft = Draft {
+    stage: 4,
+    max: 24,
+    leads: &[(b'p', b"x.14.x.12"), (b'b', b"x.14.12.14")],
+};
+
 // On five bells with bobs.
 const DOUBLES: Draft = Draft {
     stage: 5,
@@ -142,9 +149,23 @@ fn table(alloc: Global, draft: &Draft, most_heads: u64) -> Result<Option<NumberT
 // How many heads and telling rows there are, and how many telling rows in all leads.
 type Counts = (usize, usize, usize);
 
+fn telling_rows(table: &NumberTable) -> usize {
+    let mut all = 0usize;
+    for lead in &table.records {
+        all = all.saturating_add(telling_rows_of(lead));
+    }
+    all
+}
+
+// The first one is told again where there are fewer than three.
+fn telling_rows_of(lead: &LeadRecord) -> usize {
+    let [first, second, third] = lead.near;
+    1 + usize::from(second != first) + usize::from(third != first) + usize::from(lead.count)
+}
+
 fn counts(alloc: Global, draft: &Draft, most_heads: u64) -> Result<Option<Counts>, Fail> {
     match table(alloc, draft, most_heads)? {
-        Some(table) => Ok(Some((table.heads.len(), table.row_count(), table.numbers.len()))),
+        Some(table) => Ok(Some((table.heads.len(), table.row_count(), telling_rows(&table)))),
         None => Ok(None),
     }
 }
@@ -155,10 +176,12 @@ type Wanted = (&'static str, Draft, u64, Option<Counts>);
 // In Minimus each row stands in one lead. In the others the rows of a lead but its last two stand in the same leads,
 // those that are rung from its head and from its last row but one: half as many of them are telling as there are heads.
 // Each row that begins with the treble stands in leads that have no other row in common, and is telling. So a lead has
-// three telling rows.
-const TABLES: [Wanted; 6] = [
+// three telling rows. Of the leads of four changes no row stands in all leads in which another of its lead does, so that
+// each has four.
+const TABLES: [Wanted; 7] = [
     ("Minimus", MINIMUS, 3, Some((3, 3, 3))),
     ("Minimus in two heads", MINIMUS, 2, None),
+    ("Fours", FOURS, 24, Some((24, 24, 24 * 2 * 4))),
     ("Doubles", DOUBLES, 24, Some((24, 24 + 12, 24 * 2 * 3))),
     ("Doubles in 23 heads", DOUBLES, 23, None),
     ("Minor", MINOR, 120, Some((120, 120 + 60, 120 * 3 * 3))),
@@ -180,31 +203,32 @@ const HEADS: [&[u8]; 3] = [&[1, 2, 3, 4], &[1, 3, 4, 2], &[1, 4, 2, 3]];
 // The first rows of two leads, and rounds, which is the last row of the third.
 const ROWS: [&[u8]; 3] = [&[1, 2, 3, 4], &[2, 1, 4, 3], &[3, 1, 2, 4]];
 
-const NUMBERS: [u32; 3] = [1, 2, 0];
-
 // Three leads of eight changes make a touch of 24.
 const RECORDS: [LeadRecord; 3] = [
     LeadRecord {
         next: 1,
+        near: [1, 1, 1],
         start: 0,
         limit: 1,
-        count: 1,
+        count: 0,
         length: 8,
         twice: false,
     },
     LeadRecord {
         next: 2,
-        start: 1,
+        near: [2, 2, 2],
+        start: 0,
         limit: 9,
-        count: 1,
+        count: 0,
         length: 8,
         twice: false,
     },
     LeadRecord {
         next: 0,
-        start: 2,
+        near: [0, 0, 0],
+        start: 0,
         limit: 17,
-        count: 1,
+        count: 0,
         length: 8,
         twice: false,
     },
@@ -216,7 +240,7 @@ fn leads_of_minimus(rt: HostRuntime) -> Result<(), Fail> {
         return Err(Fail::from("there are three heads"));
     };
     assert!(rt; table.records.as_slice() == &RECORDS[..]);
-    assert!(rt; table.numbers.as_slice() == &NUMBERS[..]);
+    assert!(rt; table.numbers.is_empty());
     for place in 0..3 {
         assert!(rt; Row::of(HEADS[place]).as_ref() == table.heads.get(place));
         assert!(rt; Row::of(ROWS[place]).as_ref() == table.rows.get(place));

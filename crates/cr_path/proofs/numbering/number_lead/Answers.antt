@@ -57,6 +57,7 @@ returns-clause-begun c =
       end = omega (arith, c.in_ok-narrow-2.ensures, c.len-2.ensures, c.number_rows.new.numbers.ok.0);
       limit = c.limit.ensures head after_is home_is;
       counted = c.length_of.ensures.is;
+      some = omega (arith, c.length_of.ensures.some);
       twice = c.has_row_twice.ensures;
       records = c.in_ok-push.ensures.items;
     })

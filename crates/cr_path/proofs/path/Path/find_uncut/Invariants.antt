@@ -1,5 +1,9 @@
+use Rattle.std.proofs.Common.{◌≤◌}
 use Rattle.cr_path.specs.Sets.{AreSeen}
 use Rattle.cr_path.proofs.path.Path.find_uncut.Given as goal
 
 abbrev pub invariant-loop-step : goal.invariant-loop-step
-invariant-loop-step l = AreSeen l.self.problem l.self.node l.step l.uncut
+invariant-loop-step l = record {
+  seen : AreSeen l.self.problem l.self.node l.step l.uncut;
+  from : l.first ≤ l.step;
+}

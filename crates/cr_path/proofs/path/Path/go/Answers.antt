@@ -1,4 +1,4 @@
-use Rattle.std.proofs.Common.{ℕ, ◌+◌, ◌<◌, ◌∙◌, List, length, sym, ap, subst, arith}
+use Rattle.std.proofs.Common.{ℕ, ◌+◌, ◌<◌, ◌∙◌, List, length, sym, ap, subst, arith, ◌++◌}
 use Rattle.cr_model.specs.Callings.{rows_of, head_of}
 use Rattle.cr_model.specs.Decided.{rows_differ}
 use Rattle.cr_model.specs.Nodes.{IsValid}
@@ -12,8 +12,8 @@ use Rattle.cr_path.proofs.Counts.{of_meter}
 use Rattle.cr_path.proofs.Walking.{next_end, end_few, step_known, have_marks, few_fresh, marked_on, walked}
 use Rattle.cr_path.proofs.path.Path.go.Goals as goal
 
-pub numbers_of-requires : goal.numbers_of-requires
-numbers_of-requires c =
+pub further_of-requires : goal.further_of-requires
+further_of-requires c =
     let known = subst (λ (v : PathParts). IsRecord v.problem v.numbers (head_of v.problem v.node) c.args.step c.args.lead) (sym c.self.view_is) c.requires.lead in
     known.within
 
@@ -22,7 +22,8 @@ add-requires-clause-within c =
     let w = c.self.inside in
     let p = w.problem.now in
     let t = w.numbers.now in
-    have_marks p w.leads.now t w.steps w.ends w.marks.marks w.marks.fresh w.counting w.turn_free c.self.invariant c.args.lead c.numbers_of.result.now c.numbers_of.ensures
+    let known = subst (λ (v : PathParts). IsRecord v.problem v.numbers (head_of v.problem v.node) c.args.step c.args.lead) (sym c.self.view_is) c.requires.lead in
+    have_marks p w.leads.now t w.steps w.ends w.marks.marks w.marks.fresh w.counting w.turn_free c.self.invariant c.args.lead (c.args.lead.near ++ c.further_of.result.now) known.near (ap (λ (ns : List ℕ). c.args.lead.near ++ ns) c.further_of.ensures)
 
 pub add-requires-clause-few : goal.add-requires-clause-few
 add-requires-clause-few c =
@@ -81,6 +82,6 @@ invariant_of-self c =
     subst (λ (n : List ℕ). IsWalk p w.leads.now t n c.push.new.self c.add.new.self.marks c.add.new.self.fresh c.add_lead.new.self w.turn_free) (sym c.push-2.ensures)
     (walked p w.leads.now t w.steps w.ends w.marks.marks w.marks.fresh w.counting w.turn_free c.self.invariant c.args.step c.push.new.self c.add.new.self.marks c.add.new.self.fresh c.add_lead.new.self valid
     (c.push.ensures p t w.steps c.args.step is.ends (subst (λ (more : ℕ). IsEnd p t (child w.steps c.args.step) (record { head = c.args.lead.next; rung = c.last-end.result.rung + more; uncut = 0 })) (sym c.from.ensures) (next_end p t w.steps c.args.step c.last-end.result c.args.lead at_end known)))
-    (marked_on p w.leads.now t w.steps w.ends w.marks.marks w.marks.fresh w.counting w.turn_free c.self.invariant c.args.step c.args.lead c.numbers_of.result.now c.args.is_new c.add.new.self known c.numbers_of.ensures new
+    (marked_on p w.leads.now t w.steps w.ends w.marks.marks w.marks.fresh w.counting w.turn_free c.self.invariant c.args.step c.args.lead (c.args.lead.near ++ c.further_of.result.now) c.args.is_new c.add.new.self known (ap (λ (ns : List ℕ). c.args.lead.near ++ ns) c.further_of.ensures) new
     c.add.ensures.long c.add.ensures.added c.add.ensures.same)
     (c.add_lead.ensures p w.steps is.counted))
