@@ -1,22 +1,30 @@
 -- When the touch of a node is kept.
-use Rattle.std.proofs.Common.{◌≡◌, ◌≢◌, ℕ, zero, suc, ◌+◌, ◌*◌, ◌/◌, ◌≤◌, ◌↔◌, true, pos, ◌≤ℤ◌, nat_eq, List, [], ◌∷◌, length, take, All, Option, Some, None, is_none, refl, sym, ap, ◌∙◌, subst, arith}
+use Rattle.std.proofs.Common.{◌≡◌, ◌≢◌, ℕ, zero, suc, ◌+◌, ◌*◌, ◌/◌, ◌≤◌, ◌↔◌, true, pos, ◌≤ℤ◌, nat_eq, List, [], ◌∷◌, length, take, drop, ◌++◌, Bool, cond, count_by, All, Option, Some, None, is_none, refl, sym, ap, ◌∙◌, subst, arith, append-nil, take-append-drop}
 use Rattle.std.proofs.lemmas.Bool.{and_parts, false≢true}
 use Rattle.std.proofs.Common.{eqb-true}
 use Rattle.std.proofs.lemmas.List.{take_all}
+use Rattle.std.proofs.lemmas.List.Elements.{All-weaker}
+use Rattle.std.proofs.lemmas.List.Sums.{sum_by-append}
 use Rattle.cr_model.specs.declared.query.Com.{Com}
+use Rattle.cr_model.specs.declared.query.Count.{Count}
+use Rattle.cr_model.specs.declared.query.MethodCount.{MethodCount}
 use Rattle.cr_model.specs.Problems.{PatternParts, ProblemParts}
-use Rattle.cr_model.specs.Callings.{rows_of, length_of, AllDiffer}
-use Rattle.cr_model.specs.Queries.{repeated, IsWithin, rows_fitting, MeetsCom, changes_of_method}
+use Rattle.cr_model.specs.Callings.{rows_of, length_of, mark_of, letter_of, AllDiffer, TrueTouch}
+use Rattle.cr_model.specs.Decided.{rotated}
+use Rattle.cr_model.specs.Queries.{cap, repeated, IsWithin, leads_marked, leads_lettered, rows_fitting, Meets, MeetsCom, changes_of_method}
 use Rattle.cr_model.specs.Nodes.{part_of, IsValid}
 use Rattle.cr_model.specs.Dead.{parts_of, turn_free}
 use Rattle.cr_model.specs.OneTurn.{touch_of}
 use Rattle.cr_model.specs.Sound.{IsSound}
-use Rattle.cr_model.specs.Touches.{Wanted, Kept}
+use Rattle.cr_model.specs.Touches.{Wanted, IsRotation, Kept}
 use Rattle.cr_model.specs.Turning.{IsLeastRotation}
 use Rattle.cr_model.proofs.Below.{words, words_length, some_parts}
 use Rattle.cr_model.proofs.Parts.{first_word}
 use Rattle.cr_prune.proofs.Leads.{leads_differ}
-use Rattle.cr_explore.specs.Keeping.{MayBeKept}
+use Rattle.cr_query.specs.Meeting.{MeetsByRows}
+use Rattle.cr_query.proofs.KeptCallings.{kept_where_none_better}
+use Rattle.cr_path.specs.Best.{IsBest}
+use Rattle.cr_explore.specs.Keeping.{MayBeKept, IsToldByPatterns}
 use Rattle.cr_explore.proofs.Short.{few_changes, touch_has_steps}
 
 -- no words of no steps
@@ -64,13 +72,12 @@ module _ (p : ProblemParts) (node : List ℕ) where
   touch_has_some sound some none =
       some (sym (part_is (parts_of p) node (some_parts p sound)) ∙ ap (take (length (touch_of p node) / parts_of p)) none ∙ take_all (length (touch_of p node) / parts_of p) [] (omega arith))
 
-  -- where all rotations meet the query or none, the rest are the rows
-  pub kept_where_rows_differ : ((calling : List ℕ) → turn_free p.query ≡ true → Wanted p calling → Kept p calling ↔ IsLeastRotation (part_of p calling))
-      → IsSound p → turn_free p.query ≡ true → IsValid p node → MayBeKept p node → AllDiffer (rows_of p (touch_of p node)) → Kept p (touch_of p node)
-  kept_where_rows_differ least sound free valid may differ =
-      let (patterns, limits) = free_parts free in
+  -- where rows differ and patterns are met, and there is no limit on changes of method, the touch is wanted
+  wanted_where_met : IsSound p → p.query.com ≡ None → IsValid p node → MayBeKept p node → AllDiffer (rows_of p (touch_of p node))
+      → MeetsByRows p (rows_of p (touch_of p node)) → Wanted p (touch_of p node)
+  wanted_where_met sound limits valid may differ patterns =
       let long : length_of p (touch_of p node) ≡ parts_of p * length_of p node = words_length p 0 (parts_of p) node in
-      (least (touch_of p node) free (record {
+      record {
         steps = touch_has_steps p node valid.steps;
         touch = record { some = touch_has_some sound may.home.0; home = may.home.1; differ = differ };
         meets = record {
@@ -79,7 +86,63 @@ module _ (p : ProblemParts) (node : List ℕ) where
           parts = (node, refl);
           counts = may.counts.0;
           method_counts = may.counts.1;
-          patterns = subst (λ (list : List PatternParts). All (λ pattern. IsWithin pattern.min pattern.max (rows_fitting pattern.cells (rows_of p (touch_of p node)))) list) (sym patterns) (λ k d inside. absurd (omega arith));
+          patterns = patterns;
           «com» = subst (λ (o : Option Com). MeetsCom o (changes_of_method p (touch_of p node))) (sym limits) tt;
         };
-      })).1 (subst IsLeastRotation (sym (part_is (parts_of p) node (some_parts p sound))) (may.least free))
+      }
+
+  -- where all rotations meet the query or none, the rest are the rows
+  pub kept_where_rows_differ : ((calling : List ℕ) → turn_free p.query ≡ true → Wanted p calling → Kept p calling ↔ IsLeastRotation (part_of p calling))
+      → IsSound p → turn_free p.query ≡ true → IsValid p node → MayBeKept p node → AllDiffer (rows_of p (touch_of p node)) → Kept p (touch_of p node)
+  kept_where_rows_differ least sound free valid may differ =
+      let (patterns, limits) = free_parts free in
+      let met : MeetsByRows p (rows_of p (touch_of p node)) =
+      subst (λ (list : List PatternParts). All (λ pattern. IsWithin pattern.min pattern.max (rows_fitting pattern.cells (rows_of p (touch_of p node)))) list) (sym patterns) (λ k d inside. absurd (omega arith)) in
+      (least (touch_of p node) free (wanted_where_met sound limits valid may differ met)).1 (subst IsLeastRotation (sym (part_is (parts_of p) node (some_parts p sound))) (may.least free))
+
+-- a rotation has as many steps of any kind
+counted_turned : (test : ℕ → Bool) (k : ℕ) (calling : List ℕ) → count_by test (rotated k calling) ≡ count_by test calling
+counted_turned test k calling =
+    let one : ℕ → ℕ = λ step. cond (test step) 1 0 in
+    let whole : count_by test (take k calling ++ drop k calling) ≡ count_by test calling = ap (count_by test) (take-append-drop k calling) in
+    omega (arith, whole, sum_by-append one (drop k calling) (take k calling), sum_by-append one (take k calling) (drop k calling))
+
+module _ (p : ProblemParts) (told : IsToldByPatterns p) where
+  -- one part is the whole
+  pub one_part : (node : List ℕ) → touch_of p node ≡ node
+  one_part node = ap (λ (n : ℕ). repeated n node) told.parts ∙ append-nil node
+
+  -- a rotation of what meets the query does so where it meets the patterns
+  meets_turned : (calling : List ℕ) (k : ℕ) → Meets p calling → length_of p (rotated k calling) ≡ length_of p calling
+      → MeetsByRows p (rows_of p (rotated k calling)) → Meets p (rotated k calling)
+  meets_turned calling k meets long patterns = record {
+    long = subst (λ (n : ℕ). p.query.min ≤ℤ pos n) (sym long) meets.long;
+    short = subst (λ (n : ℕ). n ≤ cap p) (sym long) meets.short;
+    parts = (rotated k calling, sym (one_part (rotated k calling)));
+    counts = All-weaker (λ (count : Count). IsWithin count.min count.max (leads_marked p count.mark calling)) (λ (count : Count). IsWithin count.min count.max (leads_marked p count.mark (rotated k calling)))
+        (λ count h. subst (IsWithin count.min count.max) (sym (counted_turned (λ step. nat_eq (mark_of p step) count.mark) k calling)) h) p.query.counts meets.counts;
+    method_counts = All-weaker (λ (count : MethodCount). IsWithin count.min count.max (leads_lettered p count.letter calling)) (λ (count : MethodCount). IsWithin count.min count.max (leads_lettered p count.letter (rotated k calling)))
+        (λ count h. subst (IsWithin count.min count.max) (sym (counted_turned (λ step. nat_eq (letter_of p step) count.letter) k calling)) h) p.query.method_counts meets.method_counts;
+    patterns = patterns;
+    «com» = subst (λ (o : Option Com). MeetsCom o (changes_of_method p (rotated k calling))) (sym told.com) tt;
+  }
+
+  -- a calling that is wanted where it meets the patterns is kept where it does and no lesser rotation does
+  kept_best : (calling : List ℕ) → (MeetsByRows p (rows_of p calling) → Wanted p calling)
+      → ((other : List ℕ) → TrueTouch p calling → IsRotation calling other → TrueTouch p other × (length_of p other ≡ length_of p calling))
+      → IsBest p calling ↔ Kept p calling
+  kept_best calling wants turned = (
+    λ best. (kept_where_none_better p calling (wants best.meets) turned).0 (λ k some inside better. best.least k some inside better.less better.meets.patterns),
+    λ kept. record {
+      meets = kept.wanted.meets.patterns;
+      least = λ k some inside less rows.
+          let long = (turned (rotated k calling) kept.wanted.touch (take k calling, drop k calling, sym (take-append-drop k calling), refl)).1 in
+          (kept_where_none_better p calling kept.wanted turned).1 kept k some inside (record { less = less; meets = meets_turned calling k kept.wanted.meets long rows });
+    },
+  )
+
+  pub kept_where_best : (node : List ℕ) → ((calling other : List ℕ) → TrueTouch p calling → IsRotation calling other → TrueTouch p other × (length_of p other ≡ length_of p calling))
+      → IsSound p → IsValid p node → MayBeKept p node → AllDiffer (rows_of p (touch_of p node)) → IsBest p node ↔ Kept p (touch_of p node)
+  kept_where_best node turned sound valid may differ =
+      subst (λ (calling : List ℕ). IsBest p calling ↔ Kept p (touch_of p node)) (one_part node)
+      (kept_best (touch_of p node) (wanted_where_met p node sound told.com valid may differ) (turned (touch_of p node)))

@@ -1,5 +1,5 @@
 -- What is asked of a node before its touch is rung.
-use Rattle.std.specs.Prelude.{◌≡◌, ◌≢◌, ℕ, ◌*◌, true, pos, ◌≤ℤ◌, List, []}
+use Rattle.std.specs.Prelude.{◌≡◌, ◌≢◌, ℕ, ◌*◌, true, pos, ◌≤ℤ◌, List, [], None}
 use Rattle.cr_row.specs.Rows.{rounds}
 use Rattle.cr_model.specs.Problems.{ProblemParts}
 use Rattle.cr_model.specs.Callings.{length_of, head_of}
@@ -14,3 +14,8 @@ pub record MayBeKept (p : ProblemParts) (node : List ℕ) : Type 0 where
   pub long : p.query.min ≤ℤ pos (parts_of p * length_of p node)
   pub counts : MeetsCounts p (touch_of p node) × MeetsMethodCounts p (touch_of p node)
   pub least : turn_free p.query ≡ true → IsLeastRotation node
+
+-- one part and no limits on changes of method: of the rotations of a touch only patterns may be met by one and not by another
+pub record IsToldByPatterns (p : ProblemParts) : Type 0 where
+  pub parts : parts_of p ≡ 1
+  pub «com» : p.query.com ≡ None

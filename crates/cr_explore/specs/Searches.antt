@@ -31,9 +31,10 @@ abbrev pub HasTableWhereItFits : ProblemParts → Search → Type 0
 HasTableWhereItFits p (Rows q) = (number : ℕ) × IsWholeNumber (lead_table p) number × (4000000 < number)
 HasTableWhereItFits p (Table q) = HasRoom (lead_table p) 4000000
 
--- the path's walk is of the problem, and so is its table
-pub record IsNumberPath (p : ProblemParts) (leads : TableParts) (walk : NumberWalkParts) : Type 0 where
+-- the path's walk is of the problem, and so are its tables
+pub record IsNumberPath (p : ProblemParts) (leads : TableParts) (numbers : NumberParts) (walk : NumberWalkParts) : Type 0 where
   pub table : leads ≡ lead_table p
+  pub numbered : IsNumbered p numbers
   pub walk_of : walk.problem ≡ p
 
 -- the path's walk and pruner are of the problem, and so are its tables

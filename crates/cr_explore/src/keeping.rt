@@ -11,21 +11,25 @@ ghost use Rattle.cr_model.specs.Sound.{IsSound};
 ghost use Rattle.cr_model.specs.Touches.{Kept};
 ghost use Rattle.cr_model.specs.Turning.{IsLeastRotation};
 ghost use Rattle.cr_query.specs.Meeting.{MeetsCounts, MeetsMethodCounts};
-ghost use Rattle.cr_explore.specs.Keeping.{MayBeKept};
+ghost use Rattle.cr_path.specs.Numbers.{IsNumbered};
+ghost use Rattle.cr_explore.specs.Keeping.{MayBeKept, IsToldByPatterns};
 
 use crate::homes::{comes_home, is_long_enough};
 use crate::standing::Standing;
 use crate::touches::touch_of;
 use cr_leads::LeadTable;
 use cr_model::Problem;
+use cr_model::laws::a_rotation_of_a_true_touch_is_one;
+use cr_path::{NumberTable, NumberWalk};
 use cr_query::laws::a_wanted_calling_is_kept_where_its_part_is_least;
 use cr_query::{is_kept, turn_free};
 use cr_row::NoMemory;
 use std::alloc::Global;
 
 /// Whether the touch of a walk's node is kept. Where the node does not come home, or its touch is too short, misses a
-/// count or is not the least of its rotations, nothing is rung. Where all rotations of a touch meet the query or none,
-/// half of the further parts are rung at most, and no memory is taken. Err where no memory is left.
+/// count or is not the least of its rotations, nothing is rung. Where a row of the touch stands twice, or all rotations
+/// of a touch meet the query or none, half of the further parts are rung at most, and no memory is taken. Err where no
+/// memory is left.
 pub fn is_touch_kept<W: Standing>(
     alloc: Global,
     problem: &Problem,
@@ -42,11 +46,64 @@ pub fn is_touch_kept<W: Standing>(
     if !may_be_kept(problem, walk) {
         return Ok(false);
     }
+    if !has_different_rows(walk) {
+        return Ok(false);
+    }
     if turn_free(query) {
-        return Ok(has_different_rows(walk));
+        return Ok(true);
     }
     let touch = touch_of(alloc, problem, walk.steps())?;
     is_kept(alloc, problem, leads, &touch)
+}
+
+/// The same of a walk by numbers. Where patterns are all that tells the rotations of a touch apart, and there is one part,
+/// nothing is rung, and no memory is taken.
+pub fn is_numbered_touch_kept(
+    alloc: Global,
+    problem: &Problem,
+    leads: &LeadTable,
+    numbers: &NumberTable,
+    walk: &NumberWalk,
+) -> Result<bool, NoMemory>
+    requires same { walk.now.problem ≡ problem.now }
+    requires table { leads.now ≡ lead_table problem.now }
+    requires numbered { IsNumbered problem.now numbers.now }
+    requires valid { IsValid problem.now walk.now.node }
+    ensures { IfOk result (λ kept. IsTrue kept ↔ Kept problem.now (touch_of problem.now walk.now.node)) }
+{
+    if is_told_by_patterns(problem) {
+        Ok(is_best_touch(problem, numbers, walk))
+    } else {
+        is_touch_kept(alloc, problem, leads, walk)
+    }
+}
+
+// Whether there are patterns and one part, and no limits on changes of method.
+fn is_told_by_patterns(problem: &Problem) -> bool
+    ensures { result ≡ true → IsToldByPatterns problem.now }
+{
+    let query = problem.query();
+    query.parts == 1 && query.com.is_none() && !query.patterns.is_empty()
+}
+
+// Whether the touch of a walk's node is kept, where patterns tell its rotations apart.
+fn is_best_touch(problem: &Problem, numbers: &NumberTable, walk: &NumberWalk) -> bool
+    requires same { walk.now.problem ≡ problem.now }
+    requires numbered { IsNumbered problem.now numbers.now }
+    requires valid { IsValid problem.now walk.now.node }
+    requires told { IsToldByPatterns problem.now }
+    ensures { IsTrue result ↔ Kept problem.now (touch_of problem.now walk.now.node) }
+{
+    a_rotation_of_a_true_touch_is_one();
+    a_wanted_calling_is_kept_where_its_part_is_least();
+    let _ = problem.stage();
+    if !may_be_kept(problem, walk) {
+        return false;
+    }
+    if !has_different_rows(walk) {
+        return false;
+    }
+    numbers.is_best(problem, walk.steps())
 }
 
 // Whether what the walk tells of its node allows that the touch is kept.

@@ -4,7 +4,7 @@ ghost use Rattle.std.specs.Prelude.{◌≡◌, [], IfOk};
 ghost use Rattle.cr_leads.specs.Tables.{lead_table};
 ghost use Rattle.cr_path.specs.Numbers.{IsNumbered};
 
-use crate::keeping::is_touch_kept;
+use crate::keeping::is_numbered_touch_kept;
 use crate::path::Path;
 use cr_leads::LeadTable;
 use cr_model::Problem;
@@ -21,6 +21,7 @@ use std::marker::Model;
 pub struct NumberPath<'a> {
     problem: &'a Problem,
     leads: &'a LeadTable,
+    numbers: &'a NumberTable,
     walk: NumberWalk<'a>,
 }
 
@@ -32,7 +33,7 @@ impl<'a> Model for NumberPath<'a> {
 
     ghost view = { λ w. w.walk };
 
-    ghost invariant = { λ w. IsNumberPath w.problem.now w.leads.now w.walk };
+    ghost invariant = { λ w. IsNumberPath w.problem.now w.leads.now w.numbers.now w.walk };
 }
 
 impl<'a> NumberPath<'a> {
@@ -51,6 +52,7 @@ impl<'a> NumberPath<'a> {
         Ok(NumberPath {
             problem,
             leads,
+            numbers,
             walk,
         })
     }
@@ -84,6 +86,6 @@ impl<'a> Path for NumberPath<'a> {
 
     fn is_kept(&mut self, alloc: Global) -> Result<bool, NoMemory> {
         a_test_decides_what_is_kept();
-        is_touch_kept(alloc, self.problem, self.leads, &self.walk)
+        is_numbered_touch_kept(alloc, self.problem, self.leads, self.numbers, &self.walk)
     }
 }

@@ -32,7 +32,7 @@ const MOST_BYTES: u64 = 48_000_000;
 
 // How many bytes a lead takes then, and how many each of its rows: of all rows and of the telling ones, and for the
 // leads in which a row stands.
-const RECORD_BYTES: u64 = 36;
+const RECORD_BYTES: u64 = 48;
 
 const NUMBER_BYTES: u64 = 12;
 

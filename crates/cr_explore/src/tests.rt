@@ -66,6 +66,13 @@ const PATTERN: Draft = Draft {
     ..DOUBLES
 };
 
+// Of three touches rotations fit the pattern, and of two of them the least does not.
+const TURNED: Draft = Draft {
+    min: 1,
+    max: 100,
+    ..PATTERN
+};
+
 const MINIMUS: Draft = Draft {
     stage: 4,
     leads: &[(b'p', b"x.14.x.14.x.14.x.12")],
@@ -271,7 +278,7 @@ fn told(
 // The problem, the turns, what is found and what is left, and the turns that are used.
 type Case = (&'static str, Draft, u64, &'static [u8], u64);
 
-const CASES: [Case; 13] = [
+const CASES: [Case; 14] = [
     ("no turn", DOUBLES, 0, b"|/", 0),
     ("one turn", DOUBLES, 1, b"|b/p/", 1),
     ("two turns", DOUBLES, 2, b"|b/pb/pp/", 2),
@@ -299,6 +306,13 @@ const CASES: [Case; 13] = [
     ),
     ("in four parts", FOUR_PARTS, 99, b"pppp/|", 8),
     ("with a pattern", PATTERN, 99, b"bpbpbp/|", 20),
+    (
+        "rotations with a pattern",
+        TURNED,
+        99,
+        b"pppp/pbppbpbppb/bpbpbp/|",
+        63,
+    ),
     ("three turns of minimus", MINIMUS, 3, b"|ppp/", 3),
     ("four turns of minimus", MINIMUS, 4, b"ppp/|", 4),
     ("a false call", FALSE_CALL, 3, b"|ppp/", 3),
@@ -374,9 +388,17 @@ type Asked = (
     Option<i64>,
 );
 
-const ASKED: [Asked; 10] = [
+const ASKED: [Asked; 11] = [
     (1, 120, 1, &[], None, None),
     (1, 72, 1, &[Bell(1), Bell(3), Cell::Run], None, None),
+    (
+        1,
+        100,
+        1,
+        &[Cell::Run, Bell(2), Cell::Any],
+        Some((b'b', 4)),
+        None,
+    ),
     (1, 60, 1, &[], Some((b'b', 1)), None),
     (24, 24, 1, &[], None, Some(1)),
     (1, 120, 2, &[], None, None),

@@ -13,5 +13,5 @@ returns-clause-kept c =
     let problem : p ≡ c.args.self.now.problem = sym c.self.invariant.walk_of ∙ ap (λ (w : WalkParts). w.problem) c.self.view_is in
     let here : is_kept p (touch_of p node) ≡ is_kept c.args.self.now.problem (touch_of c.args.self.now.problem c.args.self.now.node) =
     ap₂ (λ (q : ProblemParts) (n : List ℕ). is_kept q (touch_of q n)) problem (ap (λ (w : WalkParts). w.node) c.self.view_is) in
-    subst (λ (b : Bool). IfOk c.is_touch_kept.result (λ kept. kept ≡ b)) here
-    (in_result c.is_touch_kept.result (is_kept p (touch_of p node)) _ c.is_touch_kept.ensures (c.a_test_decides_what_is_kept.ensures p (touch_of p node)))
+    subst (λ (b : Bool). IfOk c.is_numbered_touch_kept.result (λ kept. kept ≡ b)) here
+    (in_result c.is_numbered_touch_kept.result (is_kept p (touch_of p node)) _ c.is_numbered_touch_kept.ensures (c.a_test_decides_what_is_kept.ensures p (touch_of p node)))
