@@ -123,7 +123,7 @@ impl Row {
     }
 
     /// The row in one number: four bits a bell, the first place lowest, each one less than its bell.
-    /// Rows of one stage are one where their keys are; rows of two stages can have one key.
+    /// Rows of one stage are one exactly where their keys are.
     pub fn key(&self) -> u64
         ensures is { result ≡ key_of self.now }
         ensures fits { result < 16 ^ length self.now }
