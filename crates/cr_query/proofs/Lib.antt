@@ -6,5 +6,7 @@ pub mod Sizes
 pub mod Edits
 pub mod Moves
 pub mod Raising
+pub mod Shares
+pub mod LookUps
 pub mod Tellings
 pub mod Metering

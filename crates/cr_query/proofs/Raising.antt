@@ -1,5 +1,6 @@
 -- What a node's counts become with one lead more, and with one fewer.
 use Rattle.std.proofs.Common.{◌≡◌, ℕ, ◌+◌, ◌-◌, ◌<◌, cond, List, [], ◌∷◌, ◌++◌, length, get_or, map, All, nat_eq, refl, sym, ap, ap₂, ◌∙◌, arith}
+use Rattle.std.specs.List.{zip}
 use Rattle.std.proofs.lemmas.List.Elements.{All-head, All-tail}
 use Rattle.std.proofs.lemmas.List.FromFn.{get_or-map-range_with_len, length-map-range_with_len}
 use Rattle.std.proofs.lemmas.List.Sums.{sum_by_push, sum_by-append}
@@ -10,10 +11,12 @@ use Rattle.cr_model.specs.declared.query.MethodCount.{MethodCount}
 use Rattle.cr_model.specs.Problems.{PatternParts, ProblemParts}
 use Rattle.cr_model.specs.Callings.{mark_of, method_of, letter_of, rows_of, HasSteps}
 use Rattle.cr_model.specs.Queries.{fits, leads_marked, leads_lettered, rows_fitting, changes_of_method}
+use Rattle.cr_model.specs.Dead.{parts_of}
 use Rattle.cr_model.specs.Right.{FitsStage}
 use Rattle.cr_model.specs.Sizes.{child}
 use Rattle.cr_query.specs.declared.kinds.Kind.{Kind}
-use Rattle.cr_query.specs.Gauges.{raised, lowered, fitting_rows, rows_more, rows_fewer}
+use Rattle.cr_query.specs.declared.fittings.Fitting.{Fitting}
+use Rattle.cr_query.specs.Gauges.{raised, lowered, with_rows, fitting_rows, rows_more, rows_fewer, counted_more, counted_fewer}
 use Rattle.cr_query.specs.Kinds.{kind_of}
 use Rattle.cr_query.specs.Meters.{mark_gauge, letter_gauge, fitting_of, marked, lettered, fitted, kinds_of, change_between}
 use Rattle.cr_query.proofs.Fitting.{count_fitting, products_long}
@@ -22,6 +25,11 @@ use Rattle.cr_query.proofs.Fitting.{count_fitting, products_long}
 pub map_same : {X Y Z : Type 0} (f : Y → Z) (g : X → Y) (h : X → Z) (P : X → Type 0) → ((x : X) → P x → f (g x) ≡ h x) → (xs : List X) → All P xs → map f (map g xs) ≡ map h xs
 map_same f g h P same [] all = refl
 map_same f g h P same (x ∷ xs) all = ap₂ (λ y ys. y ∷ ys) (same x (All-head P x xs all)) (map_same f g h P same xs (All-tail P x xs all))
+
+-- the same of pairs
+zip_same : {X Y N Z : Type 0} (f : Y × N → Z) (g : X → Y) (n : X → N) (h : X → Z) → ((x : X) → f (g x, n x) ≡ h x) → (xs : List X) → map f (zip (map g xs) (map n xs)) ≡ map h xs
+zip_same f g n h same [] = refl
+zip_same f g n h same (x ∷ xs) = ap₂ (λ z zs. z ∷ zs) (same x) (zip_same f g n h same xs)
 
 -- what needs no fact of the items
 any_item : {X : Type 0} (xs : List X) → All (λ _. Unit {0}) xs
@@ -40,30 +48,50 @@ module _ (p : ProblemParts) (node : List ℕ) (step : ℕ) where
   -- the gauges of a child
   pub marks_raised : (counts : List Count) → map (raised (mark_of p step)) (map (marked p node) counts) ≡ map (marked p (child node step)) counts
   marks_raised counts = map_same (raised (mark_of p step)) (marked p node) (marked p (child node step)) (λ _. Unit {0})
-      (λ count _. ap (λ n. mark_gauge n count) (sym (marks_pushed count.mark))) counts (any_item counts)
+      (λ count _. ap (λ n. mark_gauge (parts_of p) n count) (sym (marks_pushed count.mark))) counts (any_item counts)
 
   pub letters_raised : (counts : List MethodCount) → map (raised (letter_of p step)) (map (lettered p node) counts) ≡ map (lettered p (child node step)) counts
   letters_raised counts = map_same (raised (letter_of p step)) (lettered p node) (lettered p (child node step)) (λ _. Unit {0})
-      (λ count _. ap (λ n. letter_gauge n count) (sym (letters_pushed count.letter))) counts (any_item counts)
+      (λ count _. ap (λ n. letter_gauge (parts_of p) n count) (sym (letters_pushed count.letter))) counts (any_item counts)
 
   -- and back
   pub marks_lowered : (counts : List Count) → map (lowered (mark_of p step)) (map (marked p (child node step)) counts) ≡ map (marked p node) counts
   marks_lowered counts = map_same (lowered (mark_of p step)) (marked p (child node step)) (marked p node) (λ _. Unit {0})
-      (λ count _. ap (λ n. mark_gauge n count) (more_fewer (leads_marked p count.mark node) (cond (nat_eq (mark_of p step) count.mark) 1 0) _ (marks_pushed count.mark))) counts (any_item counts)
+      (λ count _. ap (λ n. mark_gauge (parts_of p) n count) (more_fewer (leads_marked p count.mark node) (cond (nat_eq (mark_of p step) count.mark) 1 0) _ (marks_pushed count.mark))) counts (any_item counts)
 
   pub letters_lowered : (counts : List MethodCount) → map (lowered (letter_of p step)) (map (lettered p (child node step)) counts) ≡ map (lettered p node) counts
   letters_lowered counts = map_same (lowered (letter_of p step)) (lettered p (child node step)) (lettered p node) (λ _. Unit {0})
-      (λ count _. ap (λ n. letter_gauge n count) (more_fewer (leads_lettered p count.letter node) (cond (nat_eq (letter_of p step) count.letter) 1 0) _ (letters_pushed count.letter))) counts (any_item counts)
+      (λ count _. ap (λ n. letter_gauge (parts_of p) n count) (more_fewer (leads_lettered p count.letter node) (cond (nat_eq (letter_of p step) count.letter) 1 0) _ (letters_pushed count.letter))) counts (any_item counts)
 
-  -- the rows of a lead that is rung from the node's head
+  -- the rows of a lead
+  module _ (rows : List (List ℕ)) (joined : rows_of p (child node step) ≡ rows_of p node ++ rows) where
+    pub fitting_pushed : (pattern : PatternParts)
+        → rows_fitting pattern.cells (rows_of p (child node step)) ≡ rows_fitting pattern.cells (rows_of p node) + rows_fitting pattern.cells rows
+    fitting_pushed pattern =
+        ap (rows_fitting pattern.cells) joined
+        ∙ sum_by-append (λ row. cond (fits pattern.cells row) 1 0) (rows_of p node) rows
+
+    -- where it is known how many fit
+    pub counted_raised : (patterns : List PatternParts)
+        → counted_more (map (fitted p node) patterns) (map (λ (pattern : PatternParts). rows_fitting pattern.cells rows) patterns) ≡ map (fitted p (child node step)) patterns
+    counted_raised patterns = zip_same (λ (pair : Fitting × ℕ). with_rows (pair.0.number + pair.1) pair.0) (fitted p node)
+        (λ (pattern : PatternParts). rows_fitting pattern.cells rows) (fitted p (child node step))
+        (λ pattern. ap (λ n. fitting_of p.stage n pattern) (sym (fitting_pushed pattern))) patterns
+
+    pub counted_lowered : (patterns : List PatternParts)
+        → counted_fewer (map (fitted p (child node step)) patterns) (map (λ (pattern : PatternParts). rows_fitting pattern.cells rows) patterns) ≡ map (fitted p node) patterns
+    counted_lowered patterns = zip_same (λ (pair : Fitting × ℕ). with_rows (pair.0.number - pair.1) pair.0) (fitted p (child node step))
+        (λ (pattern : PatternParts). rows_fitting pattern.cells rows) (fitted p node)
+        (λ pattern. ap (λ n. fitting_of p.stage n pattern) (more_fewer (rows_fitting pattern.cells (rows_of p node)) (rows_fitting pattern.cells rows) _ (fitting_pushed pattern))) patterns
+
+  -- and where the lead is rung from the node's head
   module _ (head : List ℕ) (lead : List (List ℕ))
       (joined : rows_of p (child node step) ≡ rows_of p node ++ map (product head) lead)
       (long : All (λ row. length row ≡ p.stage) lead) where
     rows_pushed : (pattern : PatternParts) → FitsStage p.stage pattern.cells
         → rows_fitting pattern.cells (rows_of p (child node step)) ≡ rows_fitting pattern.cells (rows_of p node) + fitting_rows head lead (fitted p node pattern)
     rows_pushed pattern fitting =
-        ap (rows_fitting pattern.cells) joined
-        ∙ sum_by-append (λ row. cond (fits pattern.cells row) 1 0) (rows_of p node) (map (product head) lead)
+        fitting_pushed (map (product head) lead) joined pattern
         ∙ ap (λ n. rows_fitting pattern.cells (rows_of p node) + n) (sym (count_fitting p.stage pattern.cells (map (product head) lead) (products_long p.stage head lead long) fitting))
 
     pub patterns_raised : (patterns : List PatternParts) → All (λ (pattern : PatternParts). FitsStage p.stage pattern.cells) patterns

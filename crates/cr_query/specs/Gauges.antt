@@ -1,7 +1,9 @@
 -- Numbers that go up and down, and their limits.
-use Rattle.std.specs.Prelude.{ℕ, ◌+◌, ◌-◌, ◌*◌, ◌/◌, ◌≤◌, Bool, ◌||◌, cond, pos, int_lt, List, count_by, map, nat_eq, All, Option, Some, None}
-use Rattle.std.specs.List.{list_any}
+use Rattle.std.specs.Prelude.{◌≡◌, ℕ, ◌+◌, ◌-◌, ◌*◌, ◌/◌, ◌<◌, ◌≤◌, ℤ, pos, int_lt, nat_abs, nat_lt, nat_le, nat_eq, Bool, ◌||◌, cond, List, count_by, map, All, Option}
+use Rattle.std.specs.Int.{div_ceil}
+use Rattle.std.specs.List.{list_any, range_with_len, zip}
 use Rattle.cr_row.specs.Rows.{product}
+use Rattle.cr_model.specs.declared.query.Com.{Com}
 use Rattle.cr_model.specs.Dead.{above_com, below_com}
 use Rattle.cr_model.specs.Limits.{most_leads}
 use Rattle.cr_query.specs.declared.kinds.Kind.{Kind}
@@ -10,60 +12,73 @@ use Rattle.cr_query.specs.declared.gauges.Gauge.{Gauge}
 use Rattle.cr_query.specs.declared.fittings.Fitting.{Fitting}
 use Rattle.cr_query.specs.Shapes.{has_shape}
 
+-- how many leads each of so many equal parts has at least where all together have no fewer than a limit asks for
+abbrev pub fewest : ℕ → ℤ → ℕ
+fewest parts least = cond (int_lt least (pos 0)) 0 (div_ceil (nat_abs least) parts)
+
+-- from how many leads on, in each of so many equal parts, all together have more than a limit allows
+abbrev pub too_many : ℕ → ℤ → ℕ
+too_many parts greatest = cond (int_lt greatest (pos 0)) 0 (nat_abs greatest / parts + 1)
+
 -- one where the mark or the letter is the gauge's
 abbrev pub hit : ℕ → Gauge → ℕ
 hit of gauge = cond (nat_eq of gauge.of) 1 0
 
 abbrev pub at_number : ℕ → Gauge → Gauge
-at_number number gauge = record { of = gauge.of; min = gauge.min; max = gauge.max; number = number }
+at_number number gauge = record { of = gauge.of; least = gauge.least; beyond = gauge.beyond; number = number }
 
 -- a gauge after one lead more with this mark or letter, and after one fewer
 abbrev pub raised : ℕ → Gauge → Gauge
 raised of gauge = at_number (gauge.number + hit of gauge) gauge
 
-abbrev pub perhaps_raised : Option ℕ → Gauge → Gauge
-perhaps_raised None gauge = gauge
-perhaps_raised (Some of) gauge = raised of gauge
-
 abbrev pub lowered : ℕ → Gauge → Gauge
 lowered of gauge = at_number (gauge.number - hit of gauge) gauge
 
--- in so many parts the number is above the greatest, or with so many more still below the least
-abbrev pub is_above : ℕ → Gauge → Bool
-is_above parts gauge = int_lt gauge.max (pos (parts * gauge.number))
+-- the number is beyond what is allowed, or with so many more still below the least, or one of both
+abbrev pub is_above : Gauge → Bool
+is_above gauge = nat_le gauge.beyond gauge.number
 
-abbrev pub is_below : ℕ → ℕ → Gauge → Bool
-is_below parts more gauge = int_lt (pos (parts * (gauge.number + more))) gauge.min
+abbrev pub is_below : ℕ → Gauge → Bool
+is_below more gauge = nat_lt (gauge.number + more) gauge.least
+
+abbrev pub is_out : ℕ → Gauge → Bool
+is_out more gauge = is_above gauge || is_below more gauge
+
+-- the number is within the limits
+abbrev pub IsIn : Gauge → Type 0
+IsIn gauge = (gauge.least ≤ gauge.number) × (gauge.number < gauge.beyond)
 
 -- the numbers are no more than the leads of a calling
 abbrev pub AreFew : List Gauge → Type 0
 AreFew gauges = All (λ gauge. gauge.number ≤ most_leads) gauges
 
--- the mark and the letter of a lead that is perhaps added
-abbrev pub mark_in : Option Kind → Option ℕ
-mark_in None = None
-mark_in (Some kind) = Some kind.mark
+-- too many or too few leads, told by gauges and by changes of method
+abbrev pub too_many_leads : Numbers → List Gauge → List Gauge → ℕ → Bool
+too_many_leads numbers marks letters changes =
+    list_any is_above marks || (list_any is_above letters || above_com numbers.com (numbers.parts * changes))
 
-abbrev pub letter_in : Option Kind → Option ℕ
-letter_in None = None
-letter_in (Some kind) = Some kind.letter
+abbrev pub too_few_leads : Numbers → List Gauge → List Gauge → ℕ → ℕ → Bool
+too_few_leads numbers marks letters changes left =
+    list_any (is_below left) marks
+    || (list_any (is_below left) letters || below_com numbers.com (numbers.parts * (changes + left) + numbers.parts - 1))
 
--- too many or too few leads, told by gauges and by changes of method, with a lead that is perhaps added
-abbrev pub too_many_leads : Numbers → List Gauge → List Gauge → Option Kind → ℕ → Bool
-too_many_leads numbers marks letters added changes =
-    list_any (λ gauge. is_above numbers.parts (perhaps_raised (mark_in added) gauge)) marks
-    || (list_any (λ gauge. is_above numbers.parts (perhaps_raised (letter_in added) gauge)) letters
-    || above_com numbers.com (numbers.parts * changes))
+-- in so many parts the changes of method are above the limits, or with as many more as leads are left still below them
+abbrev pub is_com_out : Option Com → ℕ → ℕ → ℕ → Bool
+is_com_out limits parts changes left = above_com limits (parts * changes) || below_com limits (parts * (changes + left) + parts - 1)
 
-abbrev pub too_few_leads : Numbers → List Gauge → List Gauge → Option Kind → ℕ → ℕ → Bool
-too_few_leads numbers marks letters added changes left =
-    list_any (λ gauge. is_below numbers.parts left (perhaps_raised (mark_in added) gauge)) marks
-    || (list_any (λ gauge. is_below numbers.parts left (perhaps_raised (letter_in added) gauge)) letters
-    || below_com numbers.com (numbers.parts * (changes + left) + numbers.parts - 1))
+-- too many or too few leads with one more of a kind, which changes the method so often, and so many that are left after it
+abbrev pub hopeless_with : Numbers → List Gauge → List Gauge → Kind → ℕ → ℕ → Bool
+hopeless_with numbers marks letters kind changes left =
+    list_any (λ gauge. is_out left (raised kind.mark gauge)) marks
+    || (list_any (λ gauge. is_out left (raised kind.letter gauge)) letters || is_com_out numbers.com numbers.parts changes left)
 
 -- how many leads a part of this length has room for
 abbrev pub room_left : Numbers → ℕ → ℕ
 room_left numbers long = (numbers.part_most - long) / numbers.shortest
+
+-- the same of each length from none to the greatest of a part: a part that is longer has room for none
+abbrev pub AreRooms : Numbers → List ℕ → Type 0
+AreRooms numbers rooms = rooms ≡ map (room_left numbers) (range_with_len 0 (numbers.part_most + 1))
 
 -- bounds on the numbers of a problem
 pub record HasSmallNumbers (numbers : Numbers) : Type 0 where
@@ -73,17 +88,27 @@ pub record HasSmallNumbers (numbers : Numbers) : Type 0 where
   pub short : numbers.most ≤ 12000
   pub short_part : numbers.part_most ≤ 12000
 
--- and on those of a node
-pub record HasSmallCounts (marks letters : List Gauge) (patterns : List Fitting) (length_now changes : ℕ) : Type 0 where
+-- and on those of a node's leads
+pub record HasSmallCounts (marks letters : List Gauge) (length_now changes : ℕ) : Type 0 where
   pub few_marked : AreFew marks
   pub few_lettered : AreFew letters
-  pub few_rows : All (λ pattern. pattern.number ≤ 1048576) patterns
   pub short_now : length_now ≤ 131072
   pub few_changes : changes ≤ most_leads
+
+-- and on those of its rows
+abbrev pub HasFewRows : List Fitting → Type 0
+HasFewRows patterns = All (λ pattern. pattern.number ≤ 1048576) patterns
 
 -- the same of patterns, which count rows
 abbrev pub with_rows : ℕ → Fitting → Fitting
 with_rows number fitting = record { shape = fitting.shape; min = fitting.min; max = fitting.max; number = number }
+
+-- so many rows more, or fewer, for each pattern
+abbrev pub counted_more : List Fitting → List ℕ → List Fitting
+counted_more fittings rows = map (λ pair. with_rows (pair.0.number + pair.1) pair.0) (zip fittings rows)
+
+abbrev pub counted_fewer : List Fitting → List ℕ → List Fitting
+counted_fewer fittings rows = map (λ pair. with_rows (pair.0.number - pair.1) pair.0) (zip fittings rows)
 
 -- how many products of a head with the rows of a lead fit
 abbrev pub fitting_rows : List ℕ → List (List ℕ) → Fitting → ℕ

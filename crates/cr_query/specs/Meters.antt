@@ -1,10 +1,11 @@
 -- Meters, as contracts see them: a problem and a node of it. And what is counted of a node.
 use Rattle.std.specs.Prelude.{◌≡◌, ℕ, ◌+◌, ◌-◌, ◌*◌, ◌≤◌, Bool, cond, ◌||◌, pos, int_lt, List, [], ◌∷◌, length, get_or, map, take, nat_eq, Option, Some, None}
 use Rattle.std.specs.List.{list_any, range_with_len}
+use Rattle.cr_row.specs.Rows.{product}
 use Rattle.cr_model.specs.declared.query.Count.{Count}
 use Rattle.cr_model.specs.declared.query.MethodCount.{MethodCount}
 use Rattle.cr_model.specs.Problems.{PatternParts, ProblemParts}
-use Rattle.cr_model.specs.Callings.{shortest, length_of, rows_of, HasSteps}
+use Rattle.cr_model.specs.Callings.{shortest, length_of, rows_of, head_of, HasSteps}
 use Rattle.cr_model.specs.Dead.{parts_of, leads_left, above_com, below_com}
 use Rattle.cr_model.specs.Queries.{cap, part_cap, leads_marked, leads_lettered, rows_fitting, changes_of_method}
 use Rattle.cr_model.specs.Sizes.{child}
@@ -13,6 +14,8 @@ use Rattle.cr_query.specs.declared.kinds.Kind.{Kind}
 use Rattle.cr_query.specs.declared.gauges.Gauge.{Gauge}
 use Rattle.cr_query.specs.declared.fittings.Fitting.{Fitting}
 use Rattle.cr_query.specs.declared.numbers.Numbers.{Numbers}
+use Rattle.cr_query.specs.declared.leads.LeadCounts.{LeadCounts}
+use Rattle.cr_query.specs.Gauges.{fewest, too_many, AreRooms}
 use Rattle.cr_query.specs.Kinds.{kind_of}
 use Rattle.cr_query.specs.Shapes.{shape_of}
 
@@ -50,22 +53,22 @@ has_too_few_rows p node =
 abbrev pub is_hopeless_by_leads : ProblemParts → List ℕ → Bool
 is_hopeless_by_leads p node = has_too_many_leads p node || has_too_few_leads p node
 
--- the gauge of a count, and the shape and limits of a pattern, at a number
-abbrev pub mark_gauge : ℕ → Count → Gauge
-mark_gauge number count = record { of = count.mark; min = count.min; max = count.max; number = number }
+-- the gauge of a count in so many parts, and the shape and limits of a pattern, at a number
+abbrev pub mark_gauge : ℕ → ℕ → Count → Gauge
+mark_gauge parts number count = record { of = count.mark; least = fewest parts count.min; beyond = too_many parts count.max; number = number }
 
-abbrev pub letter_gauge : ℕ → MethodCount → Gauge
-letter_gauge number count = record { of = count.letter; min = count.min; max = count.max; number = number }
+abbrev pub letter_gauge : ℕ → ℕ → MethodCount → Gauge
+letter_gauge parts number count = record { of = count.letter; least = fewest parts count.min; beyond = too_many parts count.max; number = number }
 
 abbrev pub fitting_of : ℕ → ℕ → PatternParts → Fitting
 fitting_of stage number pattern = record { shape = shape_of stage pattern.cells; min = pattern.min; max = pattern.max; number = number }
 
 -- the same at a node
 abbrev pub marked : ProblemParts → List ℕ → Count → Gauge
-marked p node count = mark_gauge (leads_marked p count.mark node) count
+marked p node count = mark_gauge (parts_of p) (leads_marked p count.mark node) count
 
 abbrev pub lettered : ProblemParts → List ℕ → MethodCount → Gauge
-lettered p node count = letter_gauge (leads_lettered p count.letter node) count
+lettered p node count = letter_gauge (parts_of p) (leads_lettered p count.letter node) count
 
 abbrev pub fitted : ProblemParts → List ℕ → PatternParts → Fitting
 fitted p node pattern = fitting_of p.stage (rows_fitting pattern.cells (rows_of p node)) pattern
@@ -88,20 +91,30 @@ pub record HasNumbers (p : ProblemParts) (numbers : Numbers) : Type 0 where
   pub shortest : numbers.shortest ≡ shortest p
   pub «com» : numbers.com ≡ p.query.com
 
-pub record IsCompiled (p : ProblemParts) (kinds : List Kind) (numbers : Numbers) : Type 0 where
+pub record IsCompiled (p : ProblemParts) (kinds : List Kind) (numbers : Numbers) (rooms : List ℕ) : Type 0 where
   pub sound : IsSound p
   pub steps : kinds ≡ kinds_of p
   pub found : HasNumbers p numbers
+  pub table : AreRooms numbers rooms
 
--- what is counted of a node
-pub record IsCounted (p : ProblemParts) (node : List ℕ) (marks letters : List Gauge) (patterns : List Fitting) (length_now changes : ℕ) : Type 0 where
+-- what is counted of a node's leads
+pub record IsCounted (p : ProblemParts) (node : List ℕ) (counts : LeadCounts) : Type 0 where
+  pub node_is : counts.steps.items ≡ node
   pub steps : HasSteps p node
   pub few : length node ≤ 1024
-  pub by_mark : marks ≡ map (marked p node) p.query.counts
-  pub by_letter : letters ≡ map (lettered p node) p.query.method_counts
-  pub by_pattern : patterns ≡ map (fitted p node) p.query.patterns
-  pub long : length_now ≡ length_of p node
-  pub changed : changes ≡ changes_of_method p node
+  pub by_mark : counts.marks.items ≡ map (marked p node) p.query.counts
+  pub by_letter : counts.letters.items ≡ map (lettered p node) p.query.method_counts
+  pub long : counts.length ≡ length_of p node
+  pub changed : counts.changes ≡ changes_of_method p node
+
+-- and of its rows
+abbrev pub HasFittings : ProblemParts → List ℕ → List Fitting → Type 0
+HasFittings p node patterns = patterns ≡ map (fitted p node) p.query.patterns
+
+-- how many rows of a lead fit each pattern, where the lead is rung after a node
+abbrev pub rows_fitting_after : ProblemParts → List ℕ → ℕ → List ℕ
+rows_fitting_after p node step =
+    map (λ pattern. rows_fitting pattern.cells (map (product (head_of p node)) (rows_of p (step ∷ [])))) p.query.patterns
 
 -- the node after a move, which adds a step or takes the last one back, and after some moves, one after another
 abbrev pub node_after : List ℕ → Option ℕ → List ℕ
@@ -112,7 +125,7 @@ abbrev pub node_after_all : List ℕ → List (Option ℕ) → List ℕ
 node_after_all node [] = node
 node_after_all node (move ∷ moves) = node_after_all (node_after node move) moves
 
--- what contracts see of a meter after a move, as `add_lead` and `take_back` say, and after some moves
+-- what contracts see of a meter after a move, as the calls that add a lead and take one back say, and after some moves
 abbrev pub moved : MeterParts → Option ℕ → MeterParts
 moved meter move = meter_from meter.problem (node_after meter.node move)
 

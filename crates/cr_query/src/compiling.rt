@@ -1,12 +1,13 @@
 //! What a meter finds of its problem once.
 
-ghost use Rattle.std.specs.Prelude.{◌≡◌, ◌<◌, ℕ, length, map, IfOk};
+ghost use Rattle.std.specs.Prelude.{◌≡◌, ◌<◌, ◌≤◌, ℕ, length, map, IfOk};
 ghost use Rattle.cr_model.specs.Right.{FitsStage, pattern_at};
 ghost use Rattle.cr_query.specs.Meters.{kinds_of, mark_gauge, letter_gauge, fitting_of};
 
 use crate::fittings::Fitting;
 use crate::gauges::Gauge;
 use crate::kinds::{Kind, kind_of};
+use crate::limits::{fewest, too_many};
 use crate::shape::Shape;
 use cr_model::{Count, MethodCount, Pattern, Problem};
 use cr_row::{NoMemory, Stage};
@@ -31,32 +32,34 @@ fn step_count(problem: &Problem) -> u8
     problem.leads().len() as u8
 }
 
-/// The gauges of counts of marks, at no leads. Err where no memory is left.
-pub fn marks_of(alloc: Global, counts: &[Count]) -> Result<Vec<Gauge>, NoMemory>
-    ensures { IfOk result (λ gauges. gauges.items ≡ map (mark_gauge 0) counts.now) }
+/// The gauges of counts of marks in so many parts, at no leads. Err where no memory is left.
+pub fn marks_of(alloc: Global, counts: &[Count], parts: u64) -> Result<Vec<Gauge>, NoMemory>
+    requires { 1 ≤ parts }
+    ensures { IfOk result (λ gauges. gauges.items ≡ map (mark_gauge parts 0) counts.now) }
 {
     let mut gauges = Vec::with_capacity(alloc, counts.len())?;
     for count in counts {
         gauges.push(Gauge {
             of: count.mark,
-            min: count.min,
-            max: count.max,
+            least: fewest(parts, count.min),
+            beyond: too_many(parts, count.max),
             number: 0,
         })?;
     }
     Ok(gauges)
 }
 
-/// The gauges of counts of methods, at no leads. Err where no memory is left.
-pub fn letters_of(alloc: Global, counts: &[MethodCount]) -> Result<Vec<Gauge>, NoMemory>
-    ensures { IfOk result (λ gauges. gauges.items ≡ map (letter_gauge 0) counts.now) }
+/// The gauges of counts of methods in so many parts, at no leads. Err where no memory is left.
+pub fn letters_of(alloc: Global, counts: &[MethodCount], parts: u64) -> Result<Vec<Gauge>, NoMemory>
+    requires { 1 ≤ parts }
+    ensures { IfOk result (λ gauges. gauges.items ≡ map (letter_gauge parts 0) counts.now) }
 {
     let mut gauges = Vec::with_capacity(alloc, counts.len())?;
     for count in counts {
         gauges.push(Gauge {
             of: count.letter,
-            min: count.min,
-            max: count.max,
+            least: fewest(parts, count.min),
+            beyond: too_many(parts, count.max),
             number: 0,
         })?;
     }

@@ -1,19 +1,16 @@
 //! Limits on numbers of leads that go up and down.
 
-ghost use Rattle.std.specs.Prelude.{◌≡◌, ◌+◌, ◌*◌, ◌≤◌, ◌↔◌, map, All, IsTrue};
+ghost use Rattle.std.specs.Prelude.{◌≡◌, ◌+◌, ◌≤◌, ◌↔◌, map, All, IsTrue};
 ghost use Rattle.std.specs.List.{list_any};
-ghost use Rattle.cr_model.specs.Queries.{IsWithin};
-ghost use Rattle.cr_query.specs.Gauges.{hit, raised, perhaps_raised, lowered, is_above, is_below, AreFew};
+ghost use Rattle.cr_query.specs.Gauges.{hit, raised, lowered, is_above, is_below, is_out, IsIn, AreFew};
 
-use crate::limits::{exceeds, falls_short, is_within};
-use crate::numbers::in_parts;
-
-/// Limits on the leads with a mark or a letter, and how many there are.
+/// Limits on the leads of a part with a mark or a letter, and how many there are: no fewer than the least, and
+/// fewer than what is beyond them.
 #[derive(Clone, Copy)]
 pub struct Gauge {
     pub of: u8,
-    pub min: i64,
-    pub max: i64,
+    pub least: u64,
+    pub beyond: u64,
     pub number: u64,
 }
 
@@ -36,79 +33,75 @@ pub fn lower(gauges: &mut [Gauge], of: u8)
     }
 }
 
-/// Whether in so many parts some number is above its greatest, where perhaps one lead more has this mark or letter.
-pub fn some_above(gauges: &[Gauge], of: Option<u8>, parts: u64) -> bool
-    requires parts { parts ≤ 64 }
-    requires few { AreFew gauges.now }
-    ensures { result ≡ list_any (λ gauge. is_above parts (perhaps_raised of gauge)) gauges.now }
+/// Whether some number is beyond its limits.
+pub fn some_above(gauges: &[Gauge]) -> bool
+    ensures { result ≡ list_any is_above gauges.now }
 {
     for gauge in gauges {
-        if is_above(perhaps_raised(*gauge, of), parts) {
+        if is_above(*gauge) {
             return true;
         }
     }
     false
 }
 
-/// Whether in so many parts some number, with so many more in each part, is below its least. The same of the lead.
-pub fn some_below(gauges: &[Gauge], of: Option<u8>, parts: u64, more: u64) -> bool
-    requires parts { parts ≤ 64 }
-    requires more { more ≤ 12000 }
+/// Whether some number, with so many more, is below its least.
+pub fn some_below(gauges: &[Gauge], more: u64) -> bool
+    requires more { more ≤ 65535 }
     requires few { AreFew gauges.now }
-    ensures { result ≡ list_any (λ gauge. is_below parts more (perhaps_raised of gauge)) gauges.now }
+    ensures { result ≡ list_any (is_below more) gauges.now }
 {
     for gauge in gauges {
-        if is_below(perhaps_raised(*gauge, of), parts, more) {
+        if is_below(*gauge, more) {
             return true;
         }
     }
     false
 }
 
-/// Whether in so many parts each number is within its limits.
-pub fn all_within(gauges: &[Gauge], parts: u64) -> bool
-    requires parts { parts ≤ 64 }
+/// Whether with one lead more, of this mark or letter, some number is beyond its limits, or with so many more
+/// after it below its least.
+pub fn some_out(gauges: &[Gauge], of: u8, more: u64) -> bool
+    requires more { more ≤ 65535 }
     requires few { AreFew gauges.now }
-    ensures { IsTrue result ↔ All (λ gauge. IsWithin gauge.min gauge.max (parts * gauge.number)) gauges.now }
+    ensures { result ≡ list_any (λ gauge. is_out more (raised of gauge)) gauges.now }
+{
+    for gauge in gauges {
+        if is_out(raised(*gauge, of), more) {
+            return true;
+        }
+    }
+    false
+}
+
+/// Whether each number is within its limits.
+pub fn all_in(gauges: &[Gauge]) -> bool
+    ensures { IsTrue result ↔ All IsIn gauges.now }
 {
     for index in 0..gauges.len() {
-        if !is_met(gauges[index], parts) {
+        if !is_in(gauges[index]) {
             return false;
         }
     }
     true
 }
 
-fn is_met(gauge: Gauge, parts: u64) -> bool
-    requires parts { parts ≤ 64 }
-    requires few { gauge.number ≤ 1026 }
-    ensures { IsTrue result ↔ IsWithin gauge.min gauge.max (parts * gauge.number) }
+fn is_in(gauge: Gauge) -> bool
+    ensures { IsTrue result ↔ IsIn gauge }
 {
-    is_within(gauge.min, gauge.max, in_parts(parts, gauge.number))
-}
-
-// The gauge after perhaps one lead more with this mark or letter.
-fn perhaps_raised(gauge: Gauge, of: Option<u8>) -> Gauge
-    requires { gauge.number ≤ 1025 }
-    ensures is { result ≡ perhaps_raised of gauge }
-    ensures few { result.number ≤ gauge.number + 1 }
-{
-    match of {
-        Some(of) => raised(gauge, of),
-        None => gauge,
-    }
+    gauge.least <= gauge.number && gauge.number < gauge.beyond
 }
 
 // The gauge after one lead more with this mark or letter.
 fn raised(gauge: Gauge, of: u8) -> Gauge
-    requires { gauge.number ≤ 1026 }
+    requires { gauge.number ≤ 1024 }
     ensures is { result ≡ raised of gauge }
-    ensures few { result.number ≤ gauge.number + 1 }
+    ensures few { result.number ≤ 1025 }
 {
     Gauge {
         of: gauge.of,
-        min: gauge.min,
-        max: gauge.max,
+        least: gauge.least,
+        beyond: gauge.beyond,
         number: gauge.number + hit(gauge, of),
     }
 }
@@ -119,8 +112,8 @@ fn lowered(gauge: Gauge, of: u8) -> Gauge
 {
     Gauge {
         of: gauge.of,
-        min: gauge.min,
-        max: gauge.max,
+        least: gauge.least,
+        beyond: gauge.beyond,
         number: gauge.number.saturating_sub(hit(gauge, of)),
     }
 }
@@ -133,19 +126,24 @@ fn hit(gauge: Gauge, of: u8) -> u64
     if of == gauge.of { 1 } else { 0 }
 }
 
-fn is_above(gauge: Gauge, parts: u64) -> bool
-    requires parts { parts ≤ 64 }
-    requires few { gauge.number ≤ 1026 }
-    ensures { result ≡ is_above parts gauge }
+fn is_above(gauge: Gauge) -> bool
+    ensures { result ≡ is_above gauge }
 {
-    exceeds(in_parts(parts, gauge.number), gauge.max)
+    gauge.beyond <= gauge.number
 }
 
-fn is_below(gauge: Gauge, parts: u64, more: u64) -> bool
-    requires parts { parts ≤ 64 }
-    requires more { more ≤ 12000 }
-    requires few { gauge.number ≤ 1026 }
-    ensures { result ≡ is_below parts more gauge }
+fn is_below(gauge: Gauge, more: u64) -> bool
+    requires more { more ≤ 65535 }
+    requires few { gauge.number ≤ 1025 }
+    ensures { result ≡ is_below more gauge }
 {
-    falls_short(in_parts(parts, gauge.number + more), gauge.min)
+    gauge.number + more < gauge.least
+}
+
+fn is_out(gauge: Gauge, more: u64) -> bool
+    requires more { more ≤ 65535 }
+    requires few { gauge.number ≤ 1025 }
+    ensures { result ≡ is_out more gauge }
+{
+    is_above(gauge) || is_below(gauge, more)
 }

@@ -1,7 +1,7 @@
 //! What a query counts a step by.
 
 ghost use Rattle.std.specs.Prelude.{◌≡◌, ◌<◌, ◌≤◌, cond, nat_eq, length};
-ghost use Rattle.cr_model.specs.Callings.{step_at, changes_at};
+ghost use Rattle.cr_model.specs.Callings.{step_at, changes_at, lead_length};
 ghost use Rattle.cr_query.specs.Kinds.{kind_of};
 
 use cr_model::{Lead, Problem, Step};
@@ -12,7 +12,7 @@ pub struct Kind {
     pub method: u8,
     pub mark: u8,
     pub letter: u8,
-    pub length: u64,
+    pub length: u8,
 }
 
 /// The kind of a step.
@@ -22,7 +22,7 @@ pub fn kind_of(problem: &Problem, step: u8) -> Kind
 {
     let Step { method, mark } = step_at(problem.leads(), usize::from(step));
     let letter = problem.letters()[usize::from(method)];
-    let length = length_at(problem.leads(), usize::from(step));
+    let length = length_of(problem, step);
     Kind {
         method,
         mark,
@@ -47,6 +47,14 @@ fn step_at(leads: &[Lead], index: usize) -> Step
 {
     let lead = &leads[index];
     lead.step
+}
+
+// The number of changes of a step, which are no more than 128.
+fn length_of(problem: &Problem, step: u8) -> u8
+    requires { step < length problem.now.leads }
+    ensures { result ≡ lead_length problem.now step }
+{
+    length_at(problem.leads(), usize::from(step)) as u8
 }
 
 // The number of changes of the lead at an index.

@@ -9,14 +9,15 @@ mod gauges;
 mod keeping;
 mod kinds;
 pub mod laws;
+mod leads;
 mod limits;
 mod meeting;
 mod meter;
 mod nodes;
 mod numbers;
 mod parts;
+mod rooms;
 mod shape;
-mod telling;
 mod turning;
 
 pub use keeping::is_kept;

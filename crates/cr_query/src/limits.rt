@@ -1,8 +1,9 @@
 //! Numbers and their limits.
 
-ghost use Rattle.std.specs.Prelude.{◌≡◌, ◌≤ℤ◌, pos, int_lt, ◌↔◌, IsTrue};
+ghost use Rattle.std.specs.Prelude.{◌≡◌, ◌≤◌, ◌≤ℤ◌, pos, int_lt, ◌↔◌, IsTrue};
 ghost use Rattle.cr_model.specs.Queries.{IsWithin, MeetsCom};
 ghost use Rattle.cr_model.specs.Dead.{above_com, below_com};
+ghost use Rattle.cr_query.specs.Gauges.{fewest, too_many};
 
 use cr_model::Com;
 
@@ -25,6 +26,30 @@ pub fn is_within(least: i64, greatest: i64, number: u64) -> bool
     ensures { IsTrue result ↔ IsWithin least greatest number }
 {
     is_at_least(least, number) && is_at_most(number, greatest)
+}
+
+/// How many leads each of so many equal parts has at least where all together have no fewer than the least.
+pub fn fewest(parts: u64, least: i64) -> u64
+    requires { 1 ≤ parts }
+    ensures { result ≡ fewest parts least }
+{
+    if least < 0 {
+        0
+    } else {
+        least.unsigned_abs().div_ceil(parts)
+    }
+}
+
+/// From how many leads on, in each of so many equal parts, all together have more than the greatest.
+pub fn too_many(parts: u64, greatest: i64) -> u64
+    requires { 1 ≤ parts }
+    ensures { result ≡ too_many parts greatest }
+{
+    if greatest < 0 {
+        0
+    } else {
+        greatest.unsigned_abs() / parts + 1
+    }
 }
 
 /// Whether a number of changes of method is within the limits, if there are some.

@@ -7,26 +7,26 @@ ghost use Rattle.cr_model.specs.Dead.{is_too_many, is_too_few};
 ghost use Rattle.cr_model.specs.OneTurn.{touch_of};
 ghost use Rattle.cr_model.specs.Sizes.{child};
 ghost use Rattle.cr_query.specs.Meeting.{MeetsCounts, MeetsMethodCounts};
-ghost use Rattle.cr_query.specs.Meters.{meter_from, parent, has_too_many_leads, has_too_few_leads, has_too_few_rows, is_hopeless_by_leads};
+ghost use Rattle.cr_query.specs.Meters.{meter_from, parent, rows_fitting_after, has_too_many_leads, has_too_few_leads, has_too_few_rows, is_hopeless_by_leads};
 ghost use Rattle.cr_query.specs.declared.meter.Hopeless.TheVariants.{TooMany, TooFew};
 
-use crate::compiling::{fittings_of, kinds_of, letters_of, marks_of};
-use crate::fittings::{Fitting, lower_rows, raise_rows, some_have_fewer, some_have_more};
-use crate::gauges::{Gauge, all_within, lower, raise};
+use crate::compiling::{fittings_of, kinds_of};
+use crate::fittings::{
+    Fitting, lower_counted, lower_rows, raise_counted, raise_rows, some_have_fewer, some_have_more,
+};
+use crate::gauges::all_in;
 use crate::kinds::Kind;
-use crate::meeting::{counts_of, method_counts_of, patterns_of};
-use crate::nodes::{change_to, cut, kind_at, put};
-use crate::numbers::{Numbers, leads_left, numbers_of};
-use crate::telling::{has_too_few_leads, has_too_many_leads, is_hopeless};
+use crate::leads::LeadCounts;
+use crate::meeting::patterns_of;
+use crate::nodes::kind_at;
+use crate::numbers::{Numbers, numbers_of};
+use crate::rooms::{room_at, rooms_of};
 use cr_leads::LeadTable;
 use cr_model::Problem;
 use cr_model::laws::{joined_callings_multiply, ringing_on};
 use cr_row::{NoMemory, Row};
 use std::alloc::Global;
 use std::marker::Model;
-
-// The most steps that a node has.
-const ROOM: usize = 1024;
 
 /// Why no touch that meets the query begins with a node: it has more than a limit allows, or it can't come to
 /// what a limit asks for.
@@ -46,30 +46,30 @@ pub struct Meter {
     numbers: Numbers,
     // Of each step.
     kinds: Vec<Kind>,
-    // The node.
-    steps: Vec<u8>,
-    marks: Vec<Gauge>,
-    letters: Vec<Gauge>,
+    // Of each length of a part.
+    rooms: Vec<u16>,
+    // Of the node.
+    leads: LeadCounts,
     patterns: Vec<Fitting>,
-    length: u64,
-    changes: u64,
 }
 
 impl Model for Meter {
     ghost use Rattle.std.specs.Prelude.{◌≤◌, vec_capacity};
-    ghost use Rattle.cr_query.specs.Gauges.{HasSmallNumbers, HasSmallCounts};
-    ghost use Rattle.cr_query.specs.Meters.{MeterParts, meter_from, IsCompiled, IsCounted};
+    ghost use Rattle.cr_query.specs.Gauges.{HasSmallNumbers, HasSmallCounts, HasFewRows};
+    ghost use Rattle.cr_query.specs.Meters.{MeterParts, meter_from, IsCompiled, IsCounted, HasFittings};
 
     ghost Value = { MeterParts };
 
-    ghost view = { λ m. meter_from m.problem m.steps.items };
+    ghost view = { λ m. meter_from m.problem m.leads.steps.items };
 
     ghost invariant = { λ m.
-        IsCompiled m.problem m.kinds.items m.numbers
-        × IsCounted m.problem m.steps.items m.marks.items m.letters.items m.patterns.items m.length m.changes
+        IsCompiled m.problem m.kinds.items m.numbers m.rooms.items
+        × IsCounted m.problem m.leads.steps.items m.leads
+        × HasFittings m.problem m.leads.steps.items m.patterns.items
         × HasSmallNumbers m.numbers
-        × HasSmallCounts m.marks.items m.letters.items m.patterns.items m.length m.changes
-        × (1024 ≤ vec_capacity m.steps) };
+        × HasSmallCounts m.leads.marks.items m.leads.letters.items m.leads.length m.leads.changes
+        × HasFewRows m.patterns.items
+        × (1024 ≤ vec_capacity m.leads.steps) };
 }
 
 impl Meter {
@@ -77,24 +77,19 @@ impl Meter {
     pub fn new(alloc: Global, problem: &Problem) -> Result<Meter, NoMemory>
         ensures { IfOk result (λ meter. meter ≡ record { problem = problem.now; node = [] }) }
     {
-        let query = problem.query();
         let numbers = numbers_of(problem);
         let kinds = kinds_of(alloc, problem)?;
-        let steps = Vec::with_capacity(alloc, ROOM)?;
-        let marks = marks_of(alloc, counts_of(query))?;
-        let letters = letters_of(alloc, method_counts_of(query))?;
-        let patterns = fittings_of(alloc, problem.stage(), patterns_of(query))?;
+        let rooms = rooms_of(alloc, numbers)?;
+        let leads = LeadCounts::new(alloc, problem, numbers.parts)?;
+        let patterns = fittings_of(alloc, problem.stage(), patterns_of(problem.query()))?;
         let problem = problem.copy(alloc)?;
         Ok(Meter {
             problem,
             numbers,
             kinds,
-            steps,
-            marks,
-            letters,
+            rooms,
+            leads,
             patterns,
-            length: 0,
-            changes: 0,
         })
     }
 
@@ -108,14 +103,21 @@ impl Meter {
         ensures { self.new ≡ record { problem = self.old.problem; node = child self.old.node step } }
     {
         joined_callings_multiply();
-        ringing_on();
-        let kind = kind_at(&self.kinds, step);
-        self.changes += change_to(&self.kinds, &self.steps, kind.method);
-        self.length += kind.length;
-        raise(&mut self.marks, kind.mark);
-        raise(&mut self.letters, kind.letter);
+        self.leads.add(&self.kinds, step);
         raise_rows(&mut self.patterns, from, leads.rows_of(step));
-        put(&mut self.steps, step);
+    }
+
+    /// Goes to the node with this step more, where it is known how many rows of its lead fit each pattern. It takes
+    /// no memory, and rings nothing.
+    pub fn add_counted(&mut self, step: u8, fitting: &[u8])
+        requires step { step < length self.old.problem.leads }
+        requires few { length self.old.node < 1024 }
+        requires fitting { fitting.now ≡ rows_fitting_after self.old.problem self.old.node step }
+        ensures { self.new ≡ record { problem = self.old.problem; node = child self.old.node step } }
+    {
+        joined_callings_multiply();
+        self.leads.add(&self.kinds, step);
+        raise_counted(&mut self.patterns, fitting);
     }
 
     /// Goes back to the node without its last step, which is this one. The row is the last one of the node that
@@ -127,14 +129,20 @@ impl Meter {
         ensures { self.new ≡ record { problem = self.old.problem; node = parent self.old.node } }
     {
         joined_callings_multiply();
-        ringing_on();
-        let kind = kind_at(&self.kinds, step);
-        cut(&mut self.steps);
+        self.leads.take_back(&self.kinds, step);
         lower_rows(&mut self.patterns, from, leads.rows_of(step));
-        lower(&mut self.letters, kind.letter);
-        lower(&mut self.marks, kind.mark);
-        self.length -= kind.length;
-        self.changes -= change_to(&self.kinds, &self.steps, kind.method);
+    }
+
+    /// Goes back to the node without its last step, which is this one, where it is known how many rows of its lead
+    /// fit each pattern. It takes no memory, and rings nothing.
+    pub fn take_back_counted(&mut self, step: u8, fitting: &[u8])
+        requires last { self.old.node ≡ child (parent self.old.node) step }
+        requires fitting { fitting.now ≡ rows_fitting_after self.old.problem (parent self.old.node) step }
+        ensures { self.new ≡ record { problem = self.old.problem; node = parent self.old.node } }
+    {
+        joined_callings_multiply();
+        self.leads.take_back(&self.kinds, step);
+        lower_counted(&mut self.patterns, fitting);
     }
 
     /// Whether the node has too many leads, rows or changes of method for the query, or too few that are left.
@@ -162,16 +170,9 @@ impl Meter {
         }
         ringing_on();
         let kind = kind_at(&self.kinds, step);
-        let changes = self.changes + change_to(&self.kinds, &self.steps, kind.method);
-        let left = leads_left(self.numbers, self.length + kind.length);
-        is_hopeless(
-            self.numbers,
-            &self.marks,
-            &self.letters,
-            Some(kind),
-            changes,
-            left,
-        )
+        let left = room_at(&self.rooms, self.leads.length + u64::from(kind.length));
+        self.leads
+            .is_hopeless_with(self.numbers, &self.kinds, kind, left)
     }
 
     /// Whether the node's touch, which is so many times the node as the query has parts, meets each count of
@@ -186,13 +187,13 @@ impl Meter {
     fn meets_mark_counts(&self) -> bool
         ensures { IsTrue result ↔ MeetsCounts self.now.problem (touch_of self.now.problem self.now.node) }
     {
-        all_within(&self.marks, self.numbers.parts)
+        all_in(&self.leads.marks)
     }
 
     fn meets_method_counts(&self) -> bool
         ensures { IsTrue result ↔ MeetsMethodCounts self.now.problem (touch_of self.now.problem self.now.node) }
     {
-        all_within(&self.letters, self.numbers.parts)
+        all_in(&self.leads.letters)
     }
 
     fn has_too_many(&self) -> bool
@@ -210,7 +211,7 @@ impl Meter {
     fn has_too_many_leads(&self) -> bool
         ensures { result ≡ has_too_many_leads self.now.problem self.now.node }
     {
-        has_too_many_leads(self.numbers, &self.marks, &self.letters, None, self.changes)
+        self.leads.has_too_many(self.numbers)
     }
 
     fn has_too_few_leads(&self) -> bool
@@ -219,15 +220,8 @@ impl Meter {
         if self.asks_nothing_of_leads() {
             return false;
         }
-        let left = leads_left(self.numbers, self.length);
-        has_too_few_leads(
-            self.numbers,
-            &self.marks,
-            &self.letters,
-            None,
-            self.changes,
-            left,
-        )
+        let left = room_at(&self.rooms, self.leads.length);
+        self.leads.has_too_few(self.numbers, left)
     }
 
     fn has_too_few_rows(&self) -> bool
@@ -235,7 +229,7 @@ impl Meter {
     {
         some_have_fewer(
             &self.patterns,
-            self.numbers.most.saturating_sub(self.length),
+            self.numbers.most.saturating_sub(self.leads.length),
         )
     }
 
@@ -244,6 +238,6 @@ impl Meter {
         ensures { result ≡ true → (node : List ℕ)
             → (has_too_many_leads self.now.problem node ≡ false) × (has_too_few_leads self.now.problem node ≡ false) }
     {
-        self.marks.is_empty() && self.letters.is_empty() && self.numbers.com.is_none()
+        self.leads.marks.is_empty() && self.leads.letters.is_empty() && self.numbers.com.is_none()
     }
 }

@@ -1,7 +1,7 @@
 //! Numbers of a problem that are found once.
 
 ghost use Rattle.std.specs.Prelude.{◌≡◌, ◌+◌, ◌-◌, ◌*◌, ◌≤◌};
-ghost use Rattle.cr_query.specs.Gauges.{room_left, HasSmallNumbers};
+ghost use Rattle.cr_query.specs.Gauges.{HasSmallNumbers};
 ghost use Rattle.cr_query.specs.Meters.{HasNumbers};
 
 use crate::meeting::com_of;
@@ -31,16 +31,6 @@ pub fn numbers_of(problem: &Problem) -> Numbers
         shortest: problem.shortest(),
         com: com_of(problem.query()),
     }
-}
-
-/// How many leads a part of this length has room for at most.
-pub fn leads_left(numbers: Numbers, length: u64) -> u64
-    requires some { 1 ≤ numbers.shortest }
-    requires few { numbers.part_most ≤ 12000 }
-    ensures is { result ≡ room_left numbers length }
-    ensures few { result ≤ 12000 }
-{
-    numbers.part_most.saturating_sub(length) / numbers.shortest
 }
 
 /// So many in each of the parts.

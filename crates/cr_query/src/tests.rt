@@ -1,8 +1,14 @@
-ghost use Rattle.std.specs.Prelude.{◌≡◌, ◌<◌, [], length, IfOk};
+ghost use Rattle.std.specs.Prelude.{◌≡◌, ◌<◌, ◌≤◌, ℕ, [], ◌∷◌, length, map, All, IfOk};
+ghost use Rattle.cr_row.specs.Rows.{product};
 ghost use Rattle.cr_leads.specs.Tables.{lead_table};
-ghost use Rattle.cr_model.specs.Callings.{HasSteps};
+ghost use Rattle.cr_model.specs.Callings.{head_of, rows_of, HasSteps};
+ghost use Rattle.cr_model.specs.Queries.{rows_fitting};
+ghost use Rattle.cr_model.specs.Right.{FitsStage, pattern_at};
+ghost use Rattle.cr_model.specs.Sizes.{child};
+ghost use Rattle.cr_query.specs.Meters.{parent};
 
 use super::*;
+use crate::meeting::patterns_of;
 use cr_leads::LeadTable;
 use cr_model::Cell::{Any, Bell, Run};
 use cr_model::{Calling, Cell, Com, Count, Lead, MethodCount, Pattern, Problem, Query, Step};
@@ -396,12 +402,128 @@ fn queries_that_turning_does_not_change(rt: HostRuntime) -> Result<(), Fail> {
 #[derive(Clone, Copy, PartialEq, Eq)]
 struct Told(Option<Hopeless>, bool, Option<Hopeless>, bool);
 
-// Adds leads to a meter and takes the last one back: what it tells, and what of the node that is left.
+// How many rows of the lead that is rung from a head fit a pattern.
+fn fitting_in(
+    alloc: Global,
+    stage: Stage,
+    pattern: &Pattern,
+    head: &Row,
+    lead: &[Row],
+) -> Result<u8, Fail>
+    requires cells { FitsStage stage pattern.now.cells }
+    requires head { length head.now ≡ stage }
+    requires lead { All (λ row. length row ≡ stage) lead.now }
+    requires few { length lead.now ≤ 128 }
+    ensures { IfOk result (λ number. number ≡ rows_fitting pattern.now.cells (map (product head.now) lead.now)) }
+{
+    match Shape::new(alloc, stage, &pattern.cells) {
+        Ok(shape) => Ok(shape.count_lead(head, lead) as u8),
+        Err(_) => Err(Fail::from("there is memory")),
+    }
+}
+
+// The same of each pattern.
+fn fitting_in_all(
+    alloc: Global,
+    stage: Stage,
+    patterns: &[Pattern],
+    head: &Row,
+    lead: &[Row],
+) -> Result<Vec<u8>, Fail>
+    requires cells { (i : ℕ) → i < length patterns.now → FitsStage stage (pattern_at patterns.now i).cells }
+    requires head { length head.now ≡ stage }
+    requires lead { All (λ row. length row ≡ stage) lead.now }
+    requires few { length lead.now ≤ 128 }
+    ensures { IfOk result (λ rows. rows.items
+        ≡ map (λ pattern. rows_fitting pattern.cells (map (product head.now) lead.now)) patterns.now) }
+{
+    let mut rows = Vec::new(alloc);
+    for index in 0..patterns.len() {
+        rows.push(fitting_in(alloc, stage, &patterns[index], head, lead)?)?;
+    }
+    Ok(rows)
+}
+
+// How many rows of the lead of a step fit each pattern.
+fn fitting_of(
+    alloc: Global,
+    problem: &Problem,
+    leads: &LeadTable,
+    step: u8,
+    head: &Row,
+) -> Result<Vec<u8>, Fail>
+    requires table { leads.now ≡ lead_table problem.now }
+    requires step { step < length leads.now.leads }
+    requires head { length head.now ≡ leads.now.stage }
+    ensures { IfOk result (λ rows. rows.items
+        ≡ map (λ pattern. rows_fitting pattern.cells (map (product head.now) (rows_of problem.now (step ∷ []))))
+        problem.now.query.patterns) }
+{
+    let patterns = patterns_of(problem.query());
+    fitting_in_all(alloc, problem.stage(), patterns, head, leads.rows_of(step))
+}
+
+// Adds a lead to a meter, which is rung, or of which it is known how many rows fit.
+fn add(
+    alloc: Global,
+    meter: &mut Meter,
+    problem: &Problem,
+    leads: &LeadTable,
+    step: u8,
+    head: &Row,
+    is_counted: bool,
+) -> Result<(), Fail>
+    requires same { meter.old.problem ≡ problem.now }
+    requires table { leads.now ≡ lead_table problem.now }
+    requires step { step < length leads.now.leads }
+    requires head { head.now ≡ head_of problem.now meter.old.node }
+    requires long { length head.now ≡ leads.now.stage }
+    requires few { length meter.old.node < 1024 }
+    ensures { IfOk result (λ _. meter.new ≡ record { problem = problem.now; node = child meter.old.node step }) }
+{
+    if is_counted {
+        let fitting = fitting_of(alloc, problem, leads, step, head)?;
+        meter.add_counted(step, &fitting);
+    } else {
+        meter.add_lead(leads, step, head);
+    }
+    Ok(())
+}
+
+// Takes the last lead of a meter back, in the same two ways.
+fn back(
+    alloc: Global,
+    meter: &mut Meter,
+    problem: &Problem,
+    leads: &LeadTable,
+    step: u8,
+    head: &Row,
+    is_counted: bool,
+) -> Result<(), Fail>
+    requires same { meter.old.problem ≡ problem.now }
+    requires table { leads.now ≡ lead_table problem.now }
+    requires step { step < length leads.now.leads }
+    requires last { meter.old.node ≡ child (parent meter.old.node) step }
+    requires head { head.now ≡ head_of problem.now (parent meter.old.node) }
+    requires long { length head.now ≡ leads.now.stage }
+{
+    if is_counted {
+        let fitting = fitting_of(alloc, problem, leads, step, head)?;
+        meter.take_back_counted(step, &fitting);
+    } else {
+        meter.take_back(leads, step, head);
+    }
+    Ok(())
+}
+
+// Adds leads to a meter and takes the last one back, where each is rung or it is known how many of its rows fit:
+// what it tells, and what of the node that is left.
 fn walked(
     alloc: Global,
     draft: &Draft,
     node: &[u8],
     step: u8,
+    is_counted: bool,
 ) -> Result<(Told, Option<Hopeless>), Fail> {
     let problem = problem(alloc, draft)?;
     let leads = table(alloc, &problem)?;
@@ -415,28 +537,37 @@ fn walked(
     if node.len() >= 1024 {
         return Err(Fail::from("the node is short"));
     }
-    lead_to(alloc, &mut meter, &leads, node)?;
+    lead_to(alloc, &mut meter, &problem, &leads, node, is_counted)?;
     let head = leads.head_after(&calling);
     let before = meter.hopeless();
     let by_leads = meter.is_hopeless_with(step);
-    meter.add_lead(&leads, step, &head);
+    add(alloc, &mut meter, &problem, &leads, step, &head, is_counted)?;
     let child = meter.hopeless();
     let counts = meter.meets_counts();
-    meter.take_back(&leads, step, &head);
+    back(alloc, &mut meter, &problem, &leads, step, &head, is_counted)?;
     Ok((Told(before, by_leads, child, counts), meter.hopeless()))
 }
 
 // Leads a fresh meter to a node.
-fn lead_to(alloc: Global, meter: &mut Meter, leads: &LeadTable, node: &[u8]) -> Result<(), Fail>
-    requires table { leads.now ≡ lead_table meter.old.problem }
+fn lead_to(
+    alloc: Global,
+    meter: &mut Meter,
+    problem: &Problem,
+    leads: &LeadTable,
+    node: &[u8],
+    is_counted: bool,
+) -> Result<(), Fail>
+    requires same { meter.old.problem ≡ problem.now }
+    requires table { leads.now ≡ lead_table problem.now }
     requires fresh { meter.old.node ≡ [] }
-    requires steps { HasSteps meter.old.problem node.now }
+    requires steps { HasSteps problem.now node.now }
     requires few { length node.now < 1024 }
-    ensures { IfOk result (λ _. meter.new ≡ record { problem = meter.old.problem; node = node.now }) }
+    ensures { IfOk result (λ _. meter.new ≡ record { problem = problem.now; node = node.now }) }
 {
     for index in 0..node.len() {
         let front = calling(alloc, &node[..index])?;
-        meter.add_lead(leads, node[index], &leads.head_after(&front));
+        let head = leads.head_after(&front);
+        add(alloc, meter, problem, leads, node[index], &head, is_counted)?;
     }
     Ok(())
 }
@@ -549,8 +680,9 @@ const METERED: [Metered; 14] = [
 #[test]
 fn meters(rt: HostRuntime) -> Result<(), Fail> {
     for Metered(name, draft, node, step, told) in METERED {
-        let (seen, left) = walked(rt.alloc(), &draft, node, step)?;
-        if seen != told || left != told.0 {
+        let rung = walked(rt.alloc(), &draft, node, step, false)?;
+        let counted = walked(rt.alloc(), &draft, node, step, true)?;
+        if rung != (told, told.0) || counted != (told, told.0) {
             return Err(Fail::from(name));
         }
     }

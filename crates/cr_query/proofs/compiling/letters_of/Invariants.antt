@@ -3,4 +3,4 @@ use Rattle.cr_query.specs.Meters.{letter_gauge}
 use Rattle.cr_query.proofs.compiling.letters_of.Given as goal
 
 abbrev pub invariant-loop-count : goal.invariant-loop-count
-invariant-loop-count l = l.gauges.items ≡ map (letter_gauge 0) (take l.count-index l.counts)
+invariant-loop-count l = l.gauges.items ≡ map (letter_gauge l.parts 0) (take l.count-index l.counts)

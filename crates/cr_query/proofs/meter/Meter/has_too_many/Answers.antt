@@ -9,8 +9,9 @@ use Rattle.cr_query.proofs.meter.Meter.has_too_many.Goals as goal
 pub returns-else-has_too_many_leads : goal.returns-else-has_too_many_leads
 returns-else-has_too_many_leads c =
     let m = c.self.inside in
-    let rows : c.some_have_more.result ≡ list_any has_more_rows (map (fitted m.problem m.steps.items) m.problem.query.patterns) = c.some_have_more.ensures ∙ ap (list_any has_more_rows) (c.deref.ensures.value ∙ c.self.invariant.1.by_pattern) in
-    let told : has_too_many_leads m.problem m.steps.items ≡ false = ap (λ (meter : MeterParts). has_too_many_leads meter.problem meter.node) c.self.view_is ∙ sym c.has_too_many_leads.ensures ∙ c.if-has_too_many_leads.false in
+    let node = m.leads.steps.items in
+    let rows : c.some_have_more.result ≡ list_any has_more_rows (map (fitted m.problem node) m.problem.query.patterns) = c.some_have_more.ensures ∙ ap (list_any has_more_rows) (c.deref.ensures.value ∙ c.self.invariant.2) in
+    let told : has_too_many_leads m.problem node ≡ false = ap (λ (meter : MeterParts). has_too_many_leads meter.problem meter.node) c.self.view_is ∙ sym c.has_too_many_leads.ensures ∙ c.if-has_too_many_leads.false in
     ap (λ b. b || c.some_have_more.result) (sym told)
-    ∙ many_in_order m.problem m.steps.items c.some_have_more.result rows
+    ∙ many_in_order m.problem node c.some_have_more.result rows
     ∙ ap (λ (meter : MeterParts). is_too_many meter.problem meter.node) c.self.view_is
