@@ -1,5 +1,5 @@
 -- Of the rows of a node the telling ones are enough.
-use Rattle.std.proofs.Common.{◌≡◌, ℕ, zero, suc, ◌+◌, ◌*◌, ◌<◌, ◌≤◌, ◌||◌, List, [], ◌∷◌, ◌++◌, length, get_or, map, take, refl, sym, ap, ap₂, ◌∙◌, subst, arith}
+use Rattle.std.proofs.Common.{◌≡◌, ℕ, zero, suc, ◌+◌, ◌*◌, ◌<◌, ◌≤◌, false, ◌||◌, List, [], ◌∷◌, ◌++◌, length, get_or, map, take, refl, sym, ap, ap₂, ◌∙◌, subst, arith}
 use Rattle.std.specs.List.{list_any}
 use Rattle.std.proofs.lemmas.List.{take_more, take_all}
 use Rattle.cr_model.specs.Problems.{ProblemParts}
@@ -10,9 +10,14 @@ use Rattle.cr_path.specs.declared.ends.LeadEnd.{LeadEnd}
 use Rattle.cr_path.specs.declared.table.LeadRecord.{LeadRecord}
 use Rattle.cr_path.specs.Ends.{IsEnd, AreEnds}
 use Rattle.cr_path.specs.Marks.{row_at, IsLead}
-use Rattle.cr_path.specs.Numbers.{NumberParts, lead_from, numbers_of, IsRecord, IsTold, IsNumbered}
+use Rattle.cr_path.specs.Numbers.{NumberParts, lead_from, numbers_of, IsTold, IsNumbered}
 use Rattle.cr_path.proofs.Children.{child_rows}
 use Rattle.cr_path.proofs.Listed.{any_none, listed_joined, or_mixed}
+use Rattle.cr_path.proofs.Places.{record_at, lead_is_told, told_at}
+
+-- what is read past the last end
+no_end : LeadEnd
+no_end = record { base = 0; rung = 0; uncut = 0; home = false }
 
 -- one of some rows stands among joined rows where it stands among the first or the later ones
 any_joined : (rows more others : List (List ℕ)) → list_any (is_listed (rows ++ more)) others ≡ (list_any (is_listed rows) others || list_any (is_listed more) others)
@@ -23,37 +28,28 @@ any_joined rows more (row ∷ others) =
 
 module _ (p : ProblemParts) (t : NumberParts) where
   told_none : IsTold p t []
-  told_none head step d inside known =
+  told_none head step inside known =
       any_none (lead_from p (get_or t.heads head []) step)
-      ∙ sym (any_none (map (row_at t) (numbers_of t (get_or t.records (head * t.steps + step) d))))
+      ∙ sym (any_none (map (row_at t) (numbers_of t (head * t.steps + step))))
 
   told_joined : (rows more : List (List ℕ)) → IsTold p t rows → IsTold p t more → IsTold p t (rows ++ more)
-  told_joined rows more one two head step d inside known =
+  told_joined rows more one two head step inside known =
       any_joined rows more (lead_from p (get_or t.heads head []) step)
-      ∙ ap₂ (λ a b. a || b) (one head step d inside known) (two head step d inside known)
-      ∙ sym (any_joined rows more (map (row_at t) (numbers_of t (get_or t.records (head * t.steps + step) d))))
-
-  -- what is found of a step from the end of a node
-  pub lead_known : IsNumbered p t → (calling : List ℕ) (end : LeadEnd) (step : ℕ) (lead : LeadRecord) → IsEnd p t calling end → step < length p.leads
-      → lead ≡ get_or t.records (end.head * t.steps + step) lead → IsRecord p t (head_of p calling) step lead
-  lead_known numbered calling end step lead at_end inside is =
-      subst (IsRecord p t (head_of p calling) step) (sym is)
-      (subst (λ head. IsRecord p t head step (get_or t.records (end.head * t.steps + step) lead)) at_end.is
-      (numbered.each end.head step lead at_end.numbered (subst (λ n. step < n) (sym numbered.counted) inside)))
+      ∙ ap₂ (λ a b. a || b) (one head step inside known) (two head step inside known)
+      ∙ sym (any_joined rows more (map (row_at t) (numbers_of t (head * t.steps + step))))
 
   module _ (numbered : IsNumbered p t) (node : List ℕ) (ends : List LeadEnd) (at : AreEnds p t node ends) (valid : IsValid p node) where
     -- the rows of one lead more
     told_more : (n : ℕ) → n < length node → IsTold p t (rows_of p (take n node)) → IsTold p t (rows_of p (take (n + 1) node))
     told_more n inside told =
         let step = get_or node n 0 in
-        let end = get_or ends n (record { head = 0; rung = 0; uncut = 0 }) in
-        let at_end : IsEnd p t (take n node) end = at.each n (record { head = 0; rung = 0; uncut = 0 }) (omega (arith, inside)) in
+        let end = get_or ends n no_end in
+        let at_end : IsEnd p t (take n node) end = at.each n no_end (omega (arith, inside)) in
         let known : step < length p.leads = valid.steps n 0 inside in
         subst (λ word. IsTold p t (rows_of p word)) (sym (take_more node n 0 inside))
         (subst (IsTold p t) (sym (child_rows p (take n node) step))
         (told_joined (rows_of p (take n node)) (lead_from p (head_of p (take n node)) step) told
-        (subst (λ head. IsTold p t (lead_from p head step)) at_end.is
-        (numbered.told end.head step at_end.numbered (subst (λ n. step < n) (sym numbered.counted) known)))))
+        (lead_is_told t (head_of p (take n node)) end.base at_end.from step p numbered known)))
 
     told_first : (n : ℕ) → n ≤ length node → IsTold p t (rows_of p (take n node))
     told_first zero within = told_none
@@ -64,11 +60,14 @@ module _ (p : ProblemParts) (t : NumberParts) where
     pub told_all : IsTold p t (rows_of p node)
     told_all = subst (λ word. IsTold p t (rows_of p word)) (take_all (length node) node (omega arith)) (told_first (length node) (omega arith))
 
-    pub lead_found : (end : LeadEnd) (step : ℕ) (lead : LeadRecord) → IsEnd p t node end → step < length p.leads
-        → lead ≡ get_or t.records (end.head * t.steps + step) lead → IsLead p t node step lead
-    lead_found end step lead at_end inside is = record {
-      known = lead_known numbered node end step lead at_end inside is;
-      told = ap (λ head. list_any (is_listed (rows_of p node)) (lead_from p head step)) (sym at_end.is)
-          ∙ told_all end.head step lead at_end.numbered (subst (λ n. step < n) (sym numbered.counted) inside)
-          ∙ ap (λ l. list_any (is_listed (rows_of p node)) (map (row_at t) (numbers_of t l))) (sym is);
+    pub told_after : (end : LeadEnd) (step : ℕ) → IsEnd p t node end → step < length p.leads
+        → list_any (is_listed (rows_of p node)) (lead_from p (head_of p node) step)
+        ≡ list_any (is_listed (rows_of p node)) (map (row_at t) (numbers_of t (end.base + step)))
+    told_after end step at_end inside = told_at t (head_of p node) end.base at_end.from step p numbered inside (rows_of p node) told_all
+
+    pub lead_found : (end : LeadEnd) (step place : ℕ) (lead : LeadRecord) → IsEnd p t node end → step < length p.leads → place ≡ end.base + step
+        → lead ≡ get_or t.records place lead → IsLead p t node step (end.base + step) lead
+    lead_found end step place lead at_end inside place_is is = record {
+      known = record_at t (head_of p node) end.base at_end.from step p numbered inside lead lead (is ∙ ap (λ (n : ℕ). get_or t.records n lead) place_is);
+      told = told_after end step at_end inside;
     }

@@ -31,12 +31,12 @@ last_kept p t node ends last end inside are is =
     }
 
 -- with the steps by which the children are not cut
-pub uncut_kept : (p : ProblemParts) (t : NumberParts) (node : List ℕ) (end : LeadEnd) (uncut : ℕ) → IsEnd p t node end → AreUncut p node uncut → IsEnd p t node (record { head = end.head; rung = end.rung; uncut = uncut })
+pub uncut_kept : (p : ProblemParts) (t : NumberParts) (node : List ℕ) (end : LeadEnd) (uncut : ℕ) → IsEnd p t node end → AreUncut p node uncut → IsEnd p t node (record { base = end.base; rung = end.rung; uncut = uncut; home = end.home })
 uncut_kept p t node end uncut is are = record {
-  numbered = is.numbered;
-  is = is.is;
+  from = is.from;
   long = is.long;
   uncut = record { found = λ _. are };
+  home = is.home;
 }
 
 -- one end more

@@ -7,12 +7,14 @@ pub mod Living
 pub mod Walking
 pub mod Passing
 pub mod Multiplied
+pub mod Homes
 pub mod Grown
 pub mod Bounds
 pub mod Lives
 pub mod Recorded
 pub mod Covering
 pub mod Names
+pub mod Padding
 pub mod Told
 pub mod Minimus
 pub mod StepSets

@@ -1,15 +1,15 @@
 -- Rows that stand among others, and rows by their numbers.
-use Rattle.std.proofs.Common.{◌≡◌, ℕ, ◌<◌, Bool, true, false, cond, not, ◌&&◌, ◌||◌, nat_eq, List, [], ◌∷◌, ◌++◌, length, get_or, map, drop, All, refl, sym, ap, ap₂, ◌∙◌, arith, drop_at}
+use Rattle.std.proofs.Common.{◌≡◌, ℕ, ◌<◌, Bool, true, false, cond, not, ◌&&◌, ◌||◌, nat_eq, List, [], ◌∷◌, ◌++◌, length, get_or, map, All, refl, sym, ap, ap₂, ◌∙◌}
 use Rattle.std.specs.Cmp.Lexicographic.{pointwise}
 use Rattle.std.specs.List.{list_any, list_all}
 use Rattle.std.proofs.lemmas.Bool.{false≢true, or_parts}
 use Rattle.std.proofs.lemmas.Cmp.{nat_list_eq_equiv}
-use Rattle.std.proofs.lemmas.List.Elements.{All-head, All-tail, All-drop, All-same}
+use Rattle.std.proofs.lemmas.List.Elements.{All-head, All-tail}
 use Rattle.std.proofs.lemmas.List.Folds.{list_any-append, list_all-append}
 use Rattle.std.proofs.lemmas.Slice.Eq.{bytes_eq-Decides}
 use Rattle.cr_model.specs.Decided.{rows_differ}
 use Rattle.cr_model.specs.Levels.{is_listed}
-use Rattle.cr_path.specs.Marks.{some_marked, AreSet}
+use Rattle.cr_path.specs.Marks.{some_marked}
 
 not_or : (a b : Bool) → not (a || b) ≡ (not a && not b)
 not_or true b = refl
@@ -89,32 +89,6 @@ module _ (rows : List (List ℕ)) where
   some_are seen marks [] are within = refl
   some_are seen marks (number ∷ numbers) are within =
       ap₂ (λ a b. a || b) (are number (All-head (λ (n : ℕ). n < length rows) number numbers within)) (some_are seen marks numbers are (All-tail (λ (n : ℕ). n < length rows) number numbers within))
-
--- three numbers
-pub of_three : (numbers : List ℕ) → length numbers ≡ 3 → get_or numbers 0 0 ∷ get_or numbers 1 0 ∷ get_or numbers 2 0 ∷ [] ≡ numbers
-of_three [] long = absurd (omega arith)
-of_three (a ∷ []) long = absurd (omega arith)
-of_three (a ∷ b ∷ []) long = absurd (omega arith)
-of_three (a ∷ b ∷ c ∷ []) long = refl
-of_three (a ∷ b ∷ c ∷ d ∷ more) long = absurd (omega arith)
-
--- what holds of joined numbers holds of the later ones
-pub all_behind : (P : ℕ → Type 0) (front more : List ℕ) → All P (front ++ more) → All P more
-all_behind P front more all = All-same P more (drop (length front) (front ++ more)) (sym (drop_at front more (length front) refl)) (All-drop P (length front) (front ++ more) all)
-
--- marks that are set of some numbers, and then of more
-pub set_more : (mark : Bool) (numbers more : List ℕ) (old mid new : List Bool) → length mid ≡ length old → AreSet mark numbers old mid → AreSet mark more mid new → AreSet mark (numbers ++ more) old new
-set_more mark numbers more old mid new long first later number inside =
-    later number (omega (arith, long, inside))
-    ∙ ap (cond (list_any (nat_eq number) more) mark) (first number inside)
-    ∙ by (list_any (nat_eq number) numbers) (list_any (nat_eq number) more)
-    ∙ ap (λ b. cond b mark (get_or old number false)) (sym (list_any-append (nat_eq number) numbers more))
-  where
-    by : (a b : Bool) → cond b mark (cond a mark (get_or old number false)) ≡ cond (a || b) mark (get_or old number false)
-    by true true = refl
-    by true false = refl
-    by false true = refl
-    by false false = refl
 
 -- marks with those of more rows, and without them
 pub more_marked : (seen more : List (List ℕ)) (row : List ℕ) → cond (is_listed more row) true (is_listed seen row) ≡ is_listed (seen ++ more) row

@@ -132,8 +132,8 @@ regrouped false true a h f k r same = ap (λ b. b || (h || (f || r))) (same refl
     by false false false r = refl
 
 -- a child of a clean node is cut by what its record, the marks, the period and the meter tell
-module _ (p : ProblemParts) (t : NumberParts) (node : List ℕ) (step : ℕ) (lead : LeadRecord) (marks : List Bool) (fresh : ℕ) (end : LeadEnd) (numbered : IsNumbered p t) (sound : IsSound p) (clean : is_clean p node ≡ true)
-    (inside : step < length p.leads) (found : IsLead p t node step lead) (are : AreMarked p t node marks fresh) (at_end : IsEnd p t node end) (numbers : List ℕ) (is : numbers ≡ numbers_of t lead) where
+module _ (p : ProblemParts) (t : NumberParts) (node : List ℕ) (step place : ℕ) (lead : LeadRecord) (marks : List Bool) (fresh : ℕ) (end : LeadEnd) (numbered : IsNumbered p t) (sound : IsSound p) (clean : is_clean p node ≡ true)
+    (inside : step < length p.leads) (found : IsLead p t node step place lead) (are : AreMarked p t node marks fresh) (at_end : IsEnd p t node end) (numbers : List ℕ) (is : numbers ≡ numbers_of t place) where
   cut_told : (not (nat_lt end.rung lead.limit) || (some_marked marks numbers || (is_turned_back p (child node step) || is_hopeless_by_leads p (child node step)))) ≡ is_cut p most_rows (child node step)
   cut_told =
       let head = head_of p node in
@@ -144,7 +144,7 @@ module _ (p : ProblemParts) (t : NumberParts) (node : List ℕ) (step : ℕ) (le
       let none : has_rounds p (rows_of p node) ≡ false = not-true (has_rounds p (rows_of p node)) apart in
       let limit : not (nat_lt end.rung lead.limit) ≡ dies_after p head step (length_of p node) =
       ap not (found.known.limit end.rung) ∙ twice (dies_after p head step end.rung) ∙ ap (dies_after p head step) at_end.long in
-      ap₂ (λ a b. a || (b || rest)) limit (marked_told p t numbered node marks fresh are differ step lead found numbers is)
+      ap₂ (λ a b. a || (b || rest)) limit (marked_told p t numbered node marks fresh are differ step place found.told numbers is)
       ∙ sym (regrouped (nat_lt (part_cap p) (length_of p node + lead_length p step)) (rows_differ (rows_of p (step ∷ []))) (is_again p (child node step)) (brings_home p rows)
       (nat_lt (cap p) (length_of p node + lead_length p step + shortest p * at_least p most_rows (head_after p head step))) again rest
       (λ holds. again_child p node step differ holds))
@@ -169,11 +169,8 @@ module _ (p : ProblemParts) (t : NumberParts) (node : List ℕ) (step : ℕ) (le
         not_less : (a b : ℕ) → nat_le a b ≡ not (nat_lt b a)
         not_less a b = grind (arith, nat_tests)
 
-    pub cut_early : (late || marked) ≡ true → (late || marked) ≡ is_cut p most_rows (child node step)
-    cut_early holds = holds ∙ ap (λ b. b || is_hopeless_by_leads p (child node step)) (sym holds) ∙ cut_by_all
-
-    pub cut_by_leads : (hopeless : Bool) → (late || marked) ≡ false → hopeless ≡ is_hopeless_by_leads p (child node step) → hopeless ≡ is_cut p most_rows (child node step)
-    cut_by_leads hopeless none by_leads = by_leads ∙ ap (λ b. b || is_hopeless_by_leads p (child node step)) (sym none) ∙ cut_by_all
+    pub child_told : (hopeless : Bool) → hopeless ≡ is_hopeless_by_leads p (child node step) → ((late || marked) || hopeless) ≡ is_cut p most_rows (child node step)
+    child_told hopeless by_leads = ap (λ b. (late || marked) || b) by_leads ∙ cut_by_all
 
 -- a node that turns back is cut
 pub turned_cut : (p : ProblemParts) (most : ℕ) (node : List ℕ) → is_turned_back p node ≡ true → is_cut p most node ≡ true

@@ -1,10 +1,10 @@
 -- The marks of a node's rows, a lead more and a lead less.
-use Rattle.std.proofs.Common.{◌≡◌, ℕ, ◌+◌, ◌<◌, ◌≤◌, Bool, true, false, cond, not, ◌&&◌, nat_eq, List, [], ◌∷◌, length, get_or, take, drop, All, refl, sym, ap, ap₂, ◌∙◌, inl, inr, arith, length-append}
+use Rattle.std.proofs.Common.{◌≡◌, ℕ, ◌+◌, ◌*◌, ◌<◌, ◌≤◌, Bool, true, false, cond, not, ◌&&◌, nat_eq, List, [], ◌∷◌, length, get_or, map, take, drop, All, refl, sym, ap, ap₂, ◌∙◌, inl, inr, arith, length-append}
 use Rattle.std.specs.List.{list_any}
 use Rattle.std.proofs.lemmas.Bool.{and_parts, cases_eq, false≢true, false_from_ne_true, not-true}
 use Rattle.std.proofs.lemmas.Bool.Decides.{eqb_tells, same_from_decides, Decides-like}
 use Rattle.std.proofs.lemmas.List.{take_all, take-append-le}
-use Rattle.std.proofs.lemmas.List.Elements.{All-append, All-take, All-drop}
+use Rattle.std.proofs.lemmas.List.Elements.{All-take, All-drop}
 use Rattle.cr_model.specs.Problems.{ProblemParts}
 use Rattle.cr_model.specs.Callings.{rows_of, head_of, changes_of_all}
 use Rattle.cr_model.specs.Decided.{rows_differ}
@@ -13,7 +13,7 @@ use Rattle.cr_model.specs.Sizes.{child}
 use Rattle.cr_model.proofs.Bells.{rows_are_rows, last_is_row}
 use Rattle.cr_model.proofs.Deciding.{rows_differ_decided}
 use Rattle.cr_path.specs.declared.table.LeadRecord.{LeadRecord}
-use Rattle.cr_path.specs.Marks.{some_marked, AreSet, AreMarked, IsLead}
+use Rattle.cr_path.specs.Marks.{some_marked, row_at, AreSet, AreMarked}
 use Rattle.cr_path.specs.Numbers.{NumberParts, lead_from, numbers_of, IsRecord, IsNumbered}
 use Rattle.cr_path.proofs.Children.{row_laws, child_rows, leads_differ}
 use Rattle.cr_path.proofs.Listed.{at, differ_joined, some_are, more_marked, fewer_marked}
@@ -26,10 +26,10 @@ child_before : (node : List ℕ) (step n : ℕ) → n ≤ length node → take n
 child_before node step n within = take-append-le n node (step ∷ []) within
 
 -- the numbers of a lead
-pub within_in : (p : ProblemParts) (t : NumberParts) → IsNumbered p t → (lead : LeadRecord) → All (λ number. number < length t.rows) lead.near → All (λ number. number < length t.rows) (numbers_of t lead)
-within_in p t numbered lead near =
-    All-append (λ (number : ℕ). number < length t.rows) lead.near (take lead.count (drop lead.start t.numbers)) near
-    (All-take (λ (number : ℕ). number < length t.rows) lead.count (drop lead.start t.numbers) (All-drop (λ (number : ℕ). number < length t.rows) lead.start t.numbers numbered.within))
+pub within_in : (p : ProblemParts) (t : NumberParts) → IsNumbered p t → (place : ℕ) → All (λ number. number < length t.rows) (numbers_of t place)
+within_in p t numbered place =
+    All-take (λ (number : ℕ). number < length t.rows) t.width (drop (place * t.width) t.numbers)
+    (All-drop (λ (number : ℕ). number < length t.rows) (place * t.width) t.numbers numbered.within)
 
 module _ (p : ProblemParts) (node : List ℕ) (step : ℕ) where
   child_differs : rows_differ (rows_of p (child node step)) ≡ (rows_differ (rows_of p node) && (rows_differ (lead_from p (head_of p node) step) && not (list_any (is_listed (rows_of p node)) (lead_from p (head_of p node) step))))
@@ -79,7 +79,7 @@ repeat_told p t node marks fresh leads are is = elim (eqb_tells fresh leads) [
       ap not (e.0 ∙ sym again)
 ]
 
-module _ (p : ProblemParts) (t : NumberParts) (node : List ℕ) (step : ℕ) (lead : LeadRecord) (known : IsRecord p t (head_of p node) step lead) (numbers : List ℕ) (is : numbers ≡ numbers_of t lead) where
+module _ (p : ProblemParts) (t : NumberParts) (node : List ℕ) (step place : ℕ) (lead : LeadRecord) (known : IsRecord p t (head_of p node) step place lead) (numbers : List ℕ) (is : numbers ≡ numbers_of t place) where
   -- the marks of a child whose rows differ
   module _ (marks next : List Bool) (fresh : ℕ) (are : AreMarked p t node marks fresh) (long : length next ≡ length marks) where
     pub marked_more : rows_differ (rows_of p (child node step)) ≡ true → AreSet true numbers marks next → AreMarked p t (child node step) next (fresh + 1)
@@ -163,17 +163,17 @@ module _ (p : ProblemParts) (t : NumberParts) (node : List ℕ) (step : ℕ) (ma
 
 -- a lead more brings no row again, told by its record, its numbers and the marks
 module _ (p : ProblemParts) (t : NumberParts) (numbered : IsNumbered p t) (node : List ℕ) (marks : List Bool) (fresh : ℕ) (are : AreMarked p t node marks fresh) (differ : rows_differ (rows_of p node) ≡ true)
-    (step : ℕ) (lead : LeadRecord) (found : IsLead p t node step lead) where
+    (step place : ℕ) (told : list_any (is_listed (rows_of p node)) (lead_from p (head_of p node) step) ≡ list_any (is_listed (rows_of p node)) (map (row_at t) (numbers_of t place))) where
   -- a row of the lead stands among the node's where one of its numbers is marked
-  pub marked_told : (numbers : List ℕ) → numbers ≡ numbers_of t lead → some_marked marks numbers ≡ list_any (is_listed (rows_of p node)) (lead_from p (head_of p node) step)
+  pub marked_told : (numbers : List ℕ) → numbers ≡ numbers_of t place → some_marked marks numbers ≡ list_any (is_listed (rows_of p node)) (lead_from p (head_of p node) step)
   marked_told numbers is =
       ap (some_marked marks) is
-      ∙ some_are t.rows (rows_of p node) marks (numbers_of t lead) (marks_of p t node marks fresh are (all_fresh p t node marks fresh are differ)) (within_in p t numbered lead found.known.near)
-      ∙ sym found.told
+      ∙ some_are t.rows (rows_of p node) marks (numbers_of t place) (marks_of p t node marks fresh are (all_fresh p t node marks fresh are differ)) (within_in p t numbered place)
+      ∙ sym told
 
-  pub new_told : (numbers : List ℕ) → numbers ≡ numbers_of t lead → (not lead.twice && not (some_marked marks numbers)) ≡ rows_differ (rows_of p (child node step))
-  new_told numbers is =
-      ap₂ (λ a b. not a && not b) found.known.twice (marked_told numbers is)
+  pub new_told : (twice : Bool) → twice ≡ not (rows_differ (rows_of p (step ∷ []))) → (numbers : List ℕ) → numbers ≡ numbers_of t place → (not twice && not (some_marked marks numbers)) ≡ rows_differ (rows_of p (child node step))
+  new_told twice twice_is numbers is =
+      ap₂ (λ a b. not a && not b) twice_is (marked_told numbers is)
       ∙ ap (λ b. b && not (list_any (is_listed (rows_of p node)) (lead_from p (head_of p node) step))) (both_nots (rows_differ (rows_of p (step ∷ []))) ∙ sym (lead_differs p node step))
       ∙ ap (λ b. b && (rows_differ (lead_from p (head_of p node) step) && not (list_any (is_listed (rows_of p node)) (lead_from p (head_of p node) step)))) (sym differ)
       ∙ sym (child_differs p node step)

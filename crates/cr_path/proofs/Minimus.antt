@@ -1,10 +1,9 @@
 -- Plain Bob Minimus by numbers.
-use Rattle.std.proofs.Common.{◌≡◌, ◌≢◌, ℕ, zero, suc, ◌+◌, ◌*◌, ◌<◌, ◌≤◌, ◌↔◌, not, ◌||◌, nat_lt, nat_eq, List, [], ◌∷◌, length, get_or, refl, sym, ap, ◌∙◌, arith, lit<, lit≤}
-use Rattle.std.specs.Prelude.{Contains, All}
+use Rattle.std.proofs.Common.{◌≡◌, ◌≢◌, ℕ, zero, suc, ◌+◌, ◌*◌, ◌<◌, ◌≤◌, ◌↔◌, true, false, not, ◌||◌, nat_lt, nat_eq, List, [], ◌∷◌, length, get_or, refl, sym, ap, ◌∙◌, arith, lit<, lit≤}
+use Rattle.std.specs.Prelude.{Contains}
 use Rattle.std.specs.List.{list_any}
 use Rattle.std.proofs.lemmas.Bool.{false≢true}
 use Rattle.std.proofs.lemmas.Bool.Decides.{nat_tests, Decides-ltb}
-use Rattle.std.proofs.lemmas.List.Elements.{All-cons, All-nil}
 use Rattle.cr_row.specs.Rows.{rounds}
 use Rattle.cr_model.specs.Problems.{QueryParts, ProblemParts}
 use Rattle.cr_model.specs.Queries.{extent}
@@ -12,7 +11,7 @@ use Rattle.cr_model.specs.Levels.{IsLevel, HasRoom, spread, level, up_to_level, 
 use Rattle.cr_model.specs.Sizes.{most_rows}
 use Rattle.cr_model.specs.Examples.{minimus, asks}
 use Rattle.cr_model.proofs.Deciding.{all_decided}
-use Rattle.cr_path.specs.Numbers.{lead_from, IsRecord, IsTold, IsNumbered}
+use Rattle.cr_path.specs.Numbers.{lead_from, power, numbers_of, IsRecord, IsTold, IsNumbered}
 use Rattle.cr_path.specs.Examples.{lead_at, minimus_numbers, minimus_asked, called, called_numbers}
 use Rattle.cr_path.specs.declared.table.LeadRecord.{LeadRecord}
 
@@ -64,77 +63,61 @@ below_9 rung = grind (arith, nat_tests)
 below_17 : (rung : ℕ) → nat_lt rung 17 ≡ not (nat_lt 24 (rung + 8) || nat_lt 24 (rung + 8 + 8 * 0))
 below_17 rung = grind (arith, nat_tests)
 
--- a telling row of a lead
-near_inside : (number : ℕ) → number < 3 → All (λ n. n < 3) (number ∷ number ∷ number ∷ [])
-near_inside number low =
-    All-cons (λ n. n < 3) number (number ∷ number ∷ []) low
-    (All-cons (λ n. n < 3) number (number ∷ []) low
-    (All-cons (λ n. n < 3) number [] low (All-nil (λ n. n < 3))))
-
 -- which telling rows stand in a lead, and which other leads have them
 module _ (laws : LevelLaws) where
-  first_are : (number : ℕ) → number < 3 → list_any (nat_eq number) (1 ∷ 1 ∷ 1 ∷ []) ≡ is_listed (lead_from minimus (1 ∷ 2 ∷ 3 ∷ 4 ∷ []) 0) (get_or minimus_numbers.rows number [])
+  first_are : (number : ℕ) → number < 3 → list_any (nat_eq number) (numbers_of minimus_numbers 0) ≡ is_listed (lead_from minimus (1 ∷ 2 ∷ 3 ∷ 4 ∷ []) 0) (get_or minimus_numbers.rows number [])
   first_are zero inside = refl
   first_are (suc zero) inside = refl
   first_are (suc (suc zero)) inside = refl
   first_are (suc (suc (suc number))) inside = absurd (omega arith)
 
-  second_are : (number : ℕ) → number < 3 → list_any (nat_eq number) (2 ∷ 2 ∷ 2 ∷ []) ≡ is_listed (lead_from minimus (1 ∷ 3 ∷ 4 ∷ 2 ∷ []) 0) (get_or minimus_numbers.rows number [])
+  second_are : (number : ℕ) → number < 3 → list_any (nat_eq number) (numbers_of minimus_numbers 1) ≡ is_listed (lead_from minimus (1 ∷ 3 ∷ 4 ∷ 2 ∷ []) 0) (get_or minimus_numbers.rows number [])
   second_are zero inside = refl
   second_are (suc zero) inside = refl
   second_are (suc (suc zero)) inside = refl
   second_are (suc (suc (suc number))) inside = absurd (omega arith)
 
-  third_are : (number : ℕ) → number < 3 → list_any (nat_eq number) (0 ∷ 0 ∷ 0 ∷ []) ≡ is_listed (lead_from minimus (1 ∷ 4 ∷ 2 ∷ 3 ∷ []) 0) (get_or minimus_numbers.rows number [])
+  third_are : (number : ℕ) → number < 3 → list_any (nat_eq number) (numbers_of minimus_numbers 2) ≡ is_listed (lead_from minimus (1 ∷ 4 ∷ 2 ∷ 3 ∷ []) 0) (get_or minimus_numbers.rows number [])
   third_are zero inside = refl
   third_are (suc zero) inside = refl
   third_are (suc (suc zero)) inside = refl
   third_are (suc (suc (suc number))) inside = absurd (omega arith)
 
-  first : IsRecord minimus minimus_numbers (1 ∷ 2 ∷ 3 ∷ 4 ∷ []) 0 (lead_at 1 1 1)
-  unfolding extent
+  first : IsRecord minimus minimus_numbers (1 ∷ 2 ∷ 3 ∷ 4 ∷ []) 0 0 (lead_at 1 1 false)
+  unfolding extent power
   first = record {
-    next = lit< tt;
-    leads_to = refl;
+    next = record { number = 1; numbered = lit< tt; starts = refl; is = refl };
+    home = refl;
     limit = λ rung. below_1 rung
         ∙ ap (λ (leads : ℕ). not (nat_lt 24 (rung + 8) || nat_lt 24 (rung + 8 + 8 * leads))) (sym (two_away laws (asks 1 24 1)));
     long = refl;
-    twice = refl;
-    near = near_inside 1 (lit< tt);
-    within = lit≤ tt;
     are = first_are;
   }
 
-  second : IsRecord minimus minimus_numbers (1 ∷ 3 ∷ 4 ∷ 2 ∷ []) 0 (lead_at 2 2 9)
-  unfolding extent
+  second : IsRecord minimus minimus_numbers (1 ∷ 3 ∷ 4 ∷ 2 ∷ []) 0 1 (lead_at 2 9 false)
+  unfolding extent power
   second = record {
-    next = lit< tt;
-    leads_to = refl;
+    next = record { number = 2; numbered = lit< tt; starts = refl; is = refl };
+    home = refl;
     limit = λ rung. below_9 rung
         ∙ ap (λ (leads : ℕ). not (nat_lt 24 (rung + 8) || nat_lt 24 (rung + 8 + 8 * leads))) (sym (one_away laws (asks 1 24 1)));
     long = refl;
-    twice = refl;
-    near = near_inside 2 (lit< tt);
-    within = lit≤ tt;
     are = second_are;
   }
 
-  third : IsRecord minimus minimus_numbers (1 ∷ 4 ∷ 2 ∷ 3 ∷ []) 0 (lead_at 0 0 17)
-  unfolding extent
+  third : IsRecord minimus minimus_numbers (1 ∷ 4 ∷ 2 ∷ 3 ∷ []) 0 2 (lead_at 0 17 true)
+  unfolding extent power
   third = record {
-    next = lit< tt;
-    leads_to = refl;
+    next = record { number = 0; numbered = lit< tt; starts = refl; is = refl };
+    home = refl;
     limit = λ rung. below_17 rung
         ∙ ap (λ (leads : ℕ). not (nat_lt 24 (rung + 8) || nat_lt 24 (rung + 8 + 8 * leads))) (sym (at_home laws (asks 1 24 1)));
     long = refl;
-    twice = refl;
-    near = near_inside 0 (lit< tt);
-    within = lit≤ tt;
     are = third_are;
   }
 
   each : (head step : ℕ) (d : LeadRecord) → head < 3 → step < 1
-      → IsRecord minimus minimus_numbers (get_or minimus_numbers.heads head []) step (get_or minimus_numbers.records (head * 1 + step) d)
+      → IsRecord minimus minimus_numbers (get_or minimus_numbers.heads head []) step (head * 1 + step) (get_or minimus_numbers.records (head * 1 + step) d)
   each zero zero d head_in step_in = first
   each (suc zero) zero d head_in step_in = second
   each (suc (suc zero)) zero d head_in step_in = third
@@ -142,25 +125,25 @@ module _ (laws : LevelLaws) where
   each head (suc step) d head_in step_in = absurd (omega arith)
 
   first_told : IsTold minimus minimus_numbers (lead_from minimus (1 ∷ 2 ∷ 3 ∷ 4 ∷ []) 0)
-  first_told zero zero d head_in step_in = refl
-  first_told (suc zero) zero d head_in step_in = refl
-  first_told (suc (suc zero)) zero d head_in step_in = refl
-  first_told (suc (suc (suc head))) zero d head_in step_in = absurd (omega arith)
-  first_told head (suc step) d head_in step_in = absurd (omega arith)
+  first_told zero zero head_in step_in = refl
+  first_told (suc zero) zero head_in step_in = refl
+  first_told (suc (suc zero)) zero head_in step_in = refl
+  first_told (suc (suc (suc head))) zero head_in step_in = absurd (omega arith)
+  first_told head (suc step) head_in step_in = absurd (omega arith)
 
   second_told : IsTold minimus minimus_numbers (lead_from minimus (1 ∷ 3 ∷ 4 ∷ 2 ∷ []) 0)
-  second_told zero zero d head_in step_in = refl
-  second_told (suc zero) zero d head_in step_in = refl
-  second_told (suc (suc zero)) zero d head_in step_in = refl
-  second_told (suc (suc (suc head))) zero d head_in step_in = absurd (omega arith)
-  second_told head (suc step) d head_in step_in = absurd (omega arith)
+  second_told zero zero head_in step_in = refl
+  second_told (suc zero) zero head_in step_in = refl
+  second_told (suc (suc zero)) zero head_in step_in = refl
+  second_told (suc (suc (suc head))) zero head_in step_in = absurd (omega arith)
+  second_told head (suc step) head_in step_in = absurd (omega arith)
 
   third_told : IsTold minimus minimus_numbers (lead_from minimus (1 ∷ 4 ∷ 2 ∷ 3 ∷ []) 0)
-  third_told zero zero d head_in step_in = refl
-  third_told (suc zero) zero d head_in step_in = refl
-  third_told (suc (suc zero)) zero d head_in step_in = refl
-  third_told (suc (suc (suc head))) zero d head_in step_in = absurd (omega arith)
-  third_told head (suc step) d head_in step_in = absurd (omega arith)
+  third_told zero zero head_in step_in = refl
+  third_told (suc zero) zero head_in step_in = refl
+  third_told (suc (suc zero)) zero head_in step_in = refl
+  third_told (suc (suc (suc head))) zero head_in step_in = absurd (omega arith)
+  third_told head (suc step) head_in step_in = absurd (omega arith)
 
   told : (head step : ℕ) → head < 3 → step < 1 → IsTold minimus minimus_numbers (lead_from minimus (get_or minimus_numbers.heads head []) step)
   told zero zero head_in step_in = first_told
@@ -179,15 +162,16 @@ module _ (laws : LevelLaws) where
     within = (all_decided (λ (n : ℕ). nat_lt n 3) (λ (n : ℕ). n < 3) (λ n. Decides-ltb n 3) minimus_numbers.numbers).0 refl;
     each = each;
     told = told;
+    twice = refl;
     fitting = refl;
   }
 
 -- two leads that have rows in common
 pub first_told_of : IsTold called (called_numbers 0) (lead_from called (rounds 4) 1)
-first_told_of zero zero d head_in step_in = refl
-first_told_of zero (suc zero) d head_in step_in = refl
-first_told_of zero (suc (suc step)) d head_in step_in = absurd (omega arith)
-first_told_of (suc head) step d head_in step_in = absurd (omega arith)
+first_told_of zero zero head_in step_in = refl
+first_told_of zero (suc zero) head_in step_in = refl
+first_told_of zero (suc (suc step)) head_in step_in = absurd (omega arith)
+first_told_of (suc head) step head_in step_in = absurd (omega arith)
 
 pub last_left_out : IsTold called (called_numbers 1) (lead_from called (rounds 4) 1) → ⊥
-last_left_out told = false≢true (sym (told 0 0 (lead_at 0 0 0) (lit< tt) (lit< tt)))
+last_left_out told = false≢true (sym (told 0 0 (lit< tt) (lit< tt)))

@@ -3,19 +3,18 @@ use Rattle.std.proofs.Common.{◌≡◌, ℕ, ◌+◌, ◌-◌, ◌<◌, ◌≤�
 use Rattle.std.specs.Prelude.{All}
 use Rattle.std.specs.List.{list_any}
 use Rattle.std.proofs.lemmas.Bool.{cases_eq, or_left, or_right, false≢true}
-use Rattle.std.proofs.lemmas.List.{append-nil, append_assoc, get_or_append_left, get_or_push, get_or_default, length_push, length-drop, length-take-le, drop_at, drop-append-le, take-append-le, take_all}
-use Rattle.std.proofs.lemmas.List.Elements.{All-append, All-push, All-drop, All-same}
+use Rattle.std.proofs.lemmas.List.{append-nil, get_or_append_left, get_or_push, get_or_default, length_push, length-drop, length-take-le, drop_at, drop-append-le, take-append-le, take_all}
+use Rattle.std.proofs.lemmas.List.Elements.{All-append, All-same}
 use Rattle.std.proofs.lemmas.List.Folds.{list_any-append, list_any_at}
 use Rattle.cr_rowset.specs.Pushing.{StandsAt}
 use Rattle.cr_path.specs.Rung.{rung_numbers, IsHeld}
-use Rattle.cr_path.specs.Telling.{AreTelling, AreSame, AreNear, IsLike, IsNamed, AreAllNamed}
+use Rattle.cr_path.specs.Telling.{AreTelling, AreSame, IsListed, AreListed}
 use Rattle.cr_path.specs.declared.numbering.RungLead.{RungLead}
-use Rattle.cr_path.specs.declared.table.LeadRecord.{LeadRecord}
 use Rattle.cr_path.proofs.Covering.{holds_among}
 
 -- what is read past the last lead
 abbrev pub no_lead : RungLead
-no_lead = record { next = 0; start = 0; end = 0; limit = 0; length = 0; twice = false }
+no_lead = record { next = 0; start = 0; end = 0; limit = 0; length = 0 }
 
 -- rows that are told stay where more are
 still_at : (rows more : List (List ℕ)) (row : List ℕ) (place : ℕ) → StandsAt rows row place → StandsAt (rows ++ more) row place
@@ -117,88 +116,63 @@ some_names name [] names some same = absurd (omega (arith, some))
 some_names name (n ∷ ns) [] some same = absurd (false≢true (same.same (name n) ∙ or_left (nat_eq (name n) (name n)) (list_any (nat_eq (name n)) (map name ns)) (eq-eqb (name n) (name n) refl)))
 some_names name (n ∷ ns) (m ∷ names) some same = omega arith
 
--- three of them are near, or the first one again
-pub near_are : (names : List ℕ) → 0 < length names → AreNear names (get_or names 0 0 ∷ get_or names 1 (get_or names 0 0) ∷ get_or names 2 (get_or names 0 0) ∷ [])
-near_are [] some = absurd (omega (arith, some))
-near_are (a ∷ []) some = record { same = λ k. once (nat_eq k a) }
-  where
-    once : (x : Bool) → (x || (x || (x || false))) ≡ (x || false)
-    once true = refl
-    once false = refl
-near_are (a ∷ b ∷ []) some = record { same = λ k. twice (nat_eq k a) (nat_eq k b) }
-  where
-    twice : (x y : Bool) → (x || (y || (x || false))) ≡ (x || (y || false))
-    twice true y = refl
-    twice false y = refl
-near_are (a ∷ b ∷ c ∷ names) some = record { same = λ k. refl }
-
 -- one lead more
 all_among : (P : ℕ → Type 0) (names more : List ℕ) → ((k : ℕ) → list_any (nat_eq k) more ≡ true → list_any (nat_eq k) names ≡ true) → All P names → All P more
 all_among P names more among all = λ i d low.
     let k = get_or more i d in
     holds_among P names k all (among k (list_any_at (nat_eq k) more i d low (eq-eqb k k refl)))
 
-still_named : (numbers : List ℕ) (name : ℕ → ℕ) (names more later : List ℕ) (rung : RungLead) (lead : LeadRecord) → later ≡ names ++ more
-    → IsNamed numbers name names rung lead → IsNamed numbers name later rung lead
-still_named numbers name names more later rung lead joined is =
-    let from : lead.start ≤ length names = omega (arith, is.within) in
-    let to : lead.count ≤ length (drop lead.start names) = omega (arith, is.within, length-drop lead.start names) in
-    let mine : take lead.count (drop lead.start later) ≡ take lead.count (drop lead.start names) =
-    ap (λ (ns : List ℕ). take lead.count (drop lead.start ns)) joined
-    ∙ ap (take lead.count) (drop-append-le lead.start names more from)
-    ∙ take-append-le lead.count (drop lead.start names) more to in
+still_listed : (numbers : List ℕ) (name : ℕ → ℕ) (names more later : List ℕ) (rung lead : RungLead) → later ≡ names ++ more
+    → IsListed numbers name names rung lead → IsListed numbers name later rung lead
+still_listed numbers name names more later rung lead joined is =
+    let from : lead.start ≤ length names = omega (arith, is.held.0, is.held.1) in
+    let to : lead.end - lead.start ≤ length (drop lead.start names) = omega (arith, is.held.0, is.held.1, length-drop lead.start names) in
+    let mine : rung_numbers later lead ≡ rung_numbers names lead =
+    ap (λ (ns : List ℕ). take (lead.end - lead.start) (drop lead.start ns)) joined
+    ∙ ap (take (lead.end - lead.start)) (drop-append-le lead.start names more from)
+    ∙ take-append-le (lead.end - lead.start) (drop lead.start names) more to in
     record {
-      like = is.like;
-      within = omega (arith, is.within, ap length joined, length-append names more);
-      same = λ n. ap (λ (ns : List ℕ). list_any (nat_eq n) (lead.near ++ ns)) mine ∙ is.same n;
+      held = (is.held.0, omega (arith, is.held.1, ap length joined, length-append names more));
+      same = subst (λ (ns : List ℕ). AreSame (map name (rung_numbers numbers rung)) ns) (sym mine) is.same;
     }
 
-module _ (numbers : List ℕ) (name : ℕ → ℕ) (below : ℕ) (rung : List RungLead) (leads next : List LeadRecord) (listed later names : List ℕ) (done : ℕ) (one : RungLead) (lead : LeadRecord)
-    (are : AreAllNamed numbers name below rung leads listed done) (inside : done < length rung) (one_is : one ≡ get_or rung done one)
+module _ (numbers : List ℕ) (name : ℕ → ℕ) (below : ℕ) (rung leads next : List RungLead) (before later names : List ℕ) (done : ℕ) (one lead : RungLead)
+    (are : AreListed numbers name below rung leads before done) (inside : done < length rung) (one_is : one ≡ get_or rung done one)
     (same : AreSame (map name (rung_numbers numbers one)) names) (low_names : All (λ n. n < below) (map name (rung_numbers numbers one)))
-    (like : IsLike one lead) (start_is : lead.start ≡ length listed) (count_is : lead.count ≡ length (drop 3 names)) (near : AreNear names lead.near)
-    (later_is : later ≡ listed ++ drop 3 names) (next_is : next ≡ leads ++ lead ∷ []) where
-  grown : length later ≡ length listed + length (drop 3 names)
-  grown = ap length later_is ∙ length-append listed (drop 3 names)
+    (some : 0 < length names) (start_is : lead.start ≡ length before) (end_is : lead.end ≡ length later)
+    (later_is : later ≡ before ++ names) (next_is : next ≡ leads ++ lead ∷ []) where
+  grown : length later ≡ length before + length names
+  grown = ap length later_is ∙ length-append before names
 
-  mine : take lead.count (drop lead.start later) ≡ drop 3 names
+  mine : rung_numbers later lead ≡ names
   mine =
-      ap (λ (ns : List ℕ). take lead.count (drop lead.start ns)) later_is
-      ∙ ap (take lead.count) (drop_at listed (drop 3 names) lead.start (sym start_is))
-      ∙ take_all lead.count (drop 3 names) (omega (arith, count_is))
+      ap (λ (ns : List ℕ). take (lead.end - lead.start) (drop lead.start ns)) later_is
+      ∙ ap (take (lead.end - lead.start)) (drop_at before names lead.start (sym start_is))
+      ∙ take_all (lead.end - lead.start) names (omega (arith, start_is, end_is, grown))
 
-  here : IsNamed numbers name later one lead
+  here : IsListed numbers name later one lead
   here = record {
-    like = like;
-    within = omega (arith, start_is, count_is, grown);
-    same = λ n. ap (λ (ns : List ℕ). list_any (nat_eq n) (lead.near ++ ns)) mine ∙ near.same n ∙ same.same n;
+    held = (omega (arith, start_is, end_is, grown, some), omega (arith, end_is));
+    same = subst (λ (ns : List ℕ). AreSame (map name (rung_numbers numbers one)) ns) (sym mine) same;
   }
 
   low_now : All (λ n. n < below) names
   low_now = all_among (λ n. n < below) (map name (rung_numbers numbers one)) names (λ k among. sym (same.same k) ∙ among) low_names
 
-  low_near : All (λ n. n < below) lead.near
-  low_near = all_among (λ n. n < below) names lead.near (λ k among.
-      sym (near.same k) ∙ list_any-append (nat_eq k) lead.near (drop 3 names)
-      ∙ or_left (list_any (nat_eq k) lead.near) (list_any (nat_eq k) (drop 3 names)) among) low_now
-
-  pub all_named_more : AreAllNamed numbers name below rung next later (done + 1)
-  all_named_more = record {
+  pub listed_more : AreListed numbers name below rung next later (done + 1)
+  listed_more = record {
     long = ap length next_is ∙ length_push leads lead ∙ ap (λ n. n + 1) are.long;
-    near = All-same (λ (l : LeadRecord). All (λ n. n < below) l.near) next (leads ++ lead ∷ []) next_is
-        (All-push (λ (l : LeadRecord). All (λ n. n < below) l.near) leads lead are.near low_near);
-    within = All-same (λ n. n < below) later (listed ++ drop 3 names) later_is
-        (All-append (λ n. n < below) listed (drop 3 names) are.within (All-drop (λ n. n < below) 3 names low_now));
+    within = All-same (λ n. n < below) later (before ++ names) later_is (All-append (λ n. n < below) before names are.within low_now);
     each = λ i d e low. elim (cases_eq i done) [
       | inl last ↦
           let rung_is : get_or rung i d ≡ one = ap (λ n. get_or rung n d) last ∙ get_or_default rung done d one inside ∙ sym one_is in
-          let lead_is : get_or next i e ≡ lead = ap₂ (λ (xs : List LeadRecord) (n : ℕ). get_or xs n e) next_is last ∙ get_or_push leads lead e done are.long in
-          subst (λ (r : RungLead). IsNamed numbers name later r (get_or next i e)) (sym rung_is)
-          (subst (IsNamed numbers name later one) (sym lead_is) here)
+          let lead_is : get_or next i e ≡ lead = ap₂ (λ (xs : List RungLead) (n : ℕ). get_or xs n e) next_is last ∙ get_or_push leads lead e done are.long in
+          subst (λ (r : RungLead). IsListed numbers name later r (get_or next i e)) (sym rung_is)
+          (subst (IsListed numbers name later one) (sym lead_is) here)
       | inr other ↦
           let earlier : i < done = omega (arith, low, other) in
-          let lead_is : get_or next i e ≡ get_or leads i e = ap (λ (xs : List LeadRecord). get_or xs i e) next_is ∙ get_or_append_left leads (lead ∷ []) e i (omega (arith, earlier, are.long)) in
-          subst (IsNamed numbers name later (get_or rung i d)) (sym lead_is)
-          (still_named numbers name listed (drop 3 names) later (get_or rung i d) (get_or leads i e) later_is (are.each i d e earlier))
+          let lead_is : get_or next i e ≡ get_or leads i e = ap (λ (xs : List RungLead). get_or xs i e) next_is ∙ get_or_append_left leads (lead ∷ []) e i (omega (arith, earlier, are.long)) in
+          subst (IsListed numbers name later (get_or rung i d)) (sym lead_is)
+          (still_listed numbers name before names later (get_or rung i d) (get_or leads i e) later_is (are.each i d e earlier))
     ];
   }

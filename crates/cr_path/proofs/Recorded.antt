@@ -11,9 +11,8 @@ use Rattle.std.proofs.lemmas.List.{take-map, drop-map, length-map, get_or_append
 use Rattle.std.proofs.lemmas.List.Elements.{All-head, All-tail, All-take, All-drop, All-append, All-push, All-weaker, All-same}
 use Rattle.cr_row.specs.Rows.{rounds}
 use Rattle.cr_model.specs.Problems.{ProblemParts}
-use Rattle.cr_model.specs.Callings.{lead_length, rows_of}
+use Rattle.cr_model.specs.Callings.{lead_length}
 use Rattle.cr_model.specs.Dead.{parts_of, has_rounds}
-use Rattle.cr_model.specs.Decided.{rows_differ}
 use Rattle.cr_rowset.specs.Stacks.{AllDiffer}
 use Rattle.cr_path.specs.Numbers.{lead_from, head_after, brings_home, dies_after}
 use Rattle.cr_path.specs.Rung.{RungParts, IsHeld, IsRungLead, IsRung}
@@ -83,7 +82,6 @@ record_kept p old new more head step lead heads rows numbers all is =
       leads_to = heads.same lead.next is.next ∙ is.leads_to;
       limit = is.limit;
       long = is.long;
-      twice = is.twice;
       held = (is.held.0, omega (arith, is.held.1, ap length numbers, length-append old.numbers more));
       are = ap (map (λ number. get_or new.rows number [])) mine
           ∙ same_rows old.rows new.rows (take (lead.end - lead.start) (drop lead.start old.numbers)) rows
@@ -104,7 +102,6 @@ pub record RingsLead (p : ProblemParts) (old new : RungParts) (head : List ℕ) 
   pub limit : (rung : ℕ) → nat_lt rung lead.limit ≡ not (dies_after p head step rung)
   pub counted : lead.length ≡ lead_length p step
   pub some : 0 < lead.length
-  pub twice : lead.twice ≡ not (rows_differ (rows_of p (step ∷ [])))
   pub records : new.records ≡ old.records ++ lead ∷ []
 
 -- it has a row
@@ -126,7 +123,6 @@ rung_record p old new head step lead is =
       leads_to = is.next.stands.is;
       limit = is.limit;
       long = is.counted;
-      twice = is.twice;
       held = (omega (arith, is.start, is.end, long, some_more p old new head step lead is), omega (arith, is.end));
       are = ap (map (λ number. get_or new.rows number [])) mine ∙ is.rows.are;
     }

@@ -1,15 +1,17 @@
 -- Telling rows of leads that were rung are numbers of the problem.
-use Rattle.std.proofs.Common.{◌≡◌, ℕ, ◌+◌, ◌-◌, ◌*◌, ◌<◌, Bool, true, nat_eq, nat_lt, List, [], ◌++◌, length, get_or, map, take, drop, refl, sym, ap, ap₂, ◌∙◌, subst, arith, eq-eqb, eqb-true}
+use Rattle.std.proofs.Common.{◌≡◌, ℕ, ◌+◌, ◌-◌, ◌*◌, ◌<◌, Bool, true, false, nat_eq, nat_lt, List, [], length, get_or, map, take, drop, refl, sym, ap, ap₂, ◌∙◌, subst, arith, eq-eqb, eqb-true}
 use Rattle.std.specs.Prelude.{All}
 use Rattle.std.specs.List.{list_any}
+use Rattle.std.proofs.lemmas.List.{get_or-map}
 use Rattle.std.proofs.lemmas.List.Elements.{All-take, All-drop, All-weaker}
 use Rattle.cr_model.specs.Problems.{ProblemParts}
 use Rattle.cr_model.specs.Levels.{is_listed}
 use Rattle.cr_rowset.specs.Pushing.{StandsAt}
 use Rattle.cr_path.specs.Covers.{CoversItself, IsCovered, StaysWithin, IsCover}
-use Rattle.cr_path.specs.Numbers.{NumberParts, lead_from, all_fitting, IsRecord, IsTold, IsNumbered}
+use Rattle.cr_path.specs.Numbers.{NumberParts, lead_from, all_fitting, comes_home, IsRecord, IsTold, IsNumbered}
+use Rattle.cr_path.specs.Facts.{false_leads}
 use Rattle.cr_path.specs.Rung.{RungParts, rung_numbers, IsRungLead, IsRung}
-use Rattle.cr_path.specs.Telling.{AreTelling, name_of, HasName, IsNamed, AreAllNamed}
+use Rattle.cr_path.specs.Telling.{AreTelling, AreSame, name_of, HasName, IsLike, AreLike, AreNamed}
 use Rattle.cr_path.specs.declared.numbering.RungLead.{RungLead}
 use Rattle.cr_path.specs.declared.table.LeadRecord.{LeadRecord}
 use Rattle.cr_path.proofs.Covering.{both_pass, IsAmong, holds_among, any_from, any_at, among_listed, listed_among}
@@ -97,10 +99,12 @@ module _ (p : ProblemParts) (t : RungParts) (rung : IsRung p t) (cover : List �
         any_at in_other at ns (get_or cover n 0) (cover_among ns ns_in ns_stay n from.1)
         (ap in_other (sym (ap told_at from.2 ∙ row_of_name ns ns_in ns_stay n from.1)) ∙ found.2))
 
-  module _ (records : List LeadRecord) (names : List ℕ) (named : AreAllNamed t.numbers name (length telling) t.records records names (length t.records))
+  module _ (records : List LeadRecord) (homes : List Bool) (width : ℕ) (names : List ℕ) (twice : List Bool)
+      (like : AreLike t.steps homes t.records records (length t.records)) (homes_are : homes ≡ map (comes_home p) t.heads)
+      (named : AreNamed t.numbers name (length telling) width t.records names) (twice_is : twice ≡ false_leads p (length p.leads))
       (fittings : List (List ℕ)) (fitting : fittings ≡ map (all_fitting p t.heads) p.query.patterns) where
     abbrev whole : NumberParts
-    whole = record { steps = t.steps; heads = t.heads; rows = telling; records = records; numbers = names; fittings = fittings }
+    whole = record { steps = t.steps; heads = t.heads; rows = telling; records = records; width = width; numbers = names; twice = twice; fittings = fittings }
 
     -- the lead of a step from a head
     module _ (head step : ℕ) (head_in : head < length t.heads) (step_in : step < t.steps) where
@@ -126,36 +130,36 @@ module _ (p : ProblemParts) (t : RungParts) (rung : IsRung p t) (cover : List �
       is_rung : IsRungLead p t (get_or t.heads head []) step lead_rung
       is_rung = rung.each head step no_lead head_in step_in
 
+      are_named : AreSame (map name lead_numbers) (take width (drop (place * width) names))
+      are_named = named.each place no_lead low
+
       module _ (d : LeadRecord) where
         abbrev lead : LeadRecord
         lead = get_or records place d
 
-        is_named : IsNamed t.numbers name names lead_rung lead
-        is_named = named.each place no_lead d low
+        is_like : IsLike t.steps homes lead_rung lead
+        is_like = like.each place no_lead d low
 
-        is_record : IsRecord p whole (get_or t.heads head []) step lead
+        is_record : IsRecord p whole (get_or t.heads head []) step place lead
         is_record = record {
-          next = omega (arith, is_named.like.next, is_rung.next);
-          leads_to = ap (λ n. get_or t.heads n []) is_named.like.next ∙ is_rung.leads_to;
-          limit = λ changes. ap (nat_lt changes) is_named.like.limit ∙ is_rung.limit changes;
-          long = is_named.like.long ∙ is_rung.long;
-          twice = is_named.like.twice ∙ is_rung.twice;
-          near = named.near place d (omega (arith, low, named.long));
-          within = is_named.within;
-          are = λ k inside. is_named.same k ∙ names_listed lead_numbers numbers_in numbers_stay k inside
+          next = record { number = lead_rung.next; numbered = is_rung.next; starts = is_like.next; is = is_rung.leads_to };
+          home = is_like.home ∙ ap (λ (flags : List Bool). get_or flags lead_rung.next false) homes_are
+              ∙ get_or-map (comes_home p) t.heads lead_rung.next [] false is_rung.next ∙ ap (comes_home p) is_rung.leads_to;
+          limit = λ changes. ap (nat_lt changes) is_like.limit ∙ is_rung.limit changes;
+          long = is_like.long ∙ is_rung.long;
+          are = λ k inside. are_named.same k ∙ names_listed lead_numbers numbers_in numbers_stay k inside
               ∙ ap (λ (rows : List (List ℕ)). is_listed rows (told_at k)) is_rung.are;
         }
 
     lead_told : (head step : ℕ) → head < length t.heads → step < t.steps → IsTold p whole (lead_from p (get_or t.heads head []) step)
-    lead_told head step head_in step_in = λ other its d other_in its_in.
+    lead_told head step head_in step_in = λ other its other_in its_in.
         let mine : map at (lead_numbers head step head_in step_in) ≡ lead_from p (get_or t.heads head []) step = (is_rung head step head_in step_in).are in
         let theirs : map at (lead_numbers other its other_in its_in) ≡ lead_from p (get_or t.heads other []) its = (is_rung other its other_in its_in).are in
-        let one = lead other its other_in its_in d in
-        let names_now : List ℕ = one.near ++ take one.count (drop one.start names) in
+        let names_now : List ℕ = take width (drop ((other * t.steps + its) * width) names) in
         ap₂ (λ (rows more : List (List ℕ)). list_any (is_listed rows) more) (sym mine) (sym theirs)
         ∙ names_tell (lead_numbers other its other_in its_in) (lead_numbers head step head_in step_in) names_now
         (numbers_in other its other_in its_in) (numbers_in head step head_in step_in) (numbers_stay other its other_in its_in) (numbers_stay head step head_in step_in)
-        (is_named other its other_in its_in d).same
+        (are_named other its other_in its_in).same
         ∙ ap (λ (rows : List (List ℕ)). list_any (is_listed rows) (map told_at names_now)) mine
 
     pub told_whole : IsNumbered p whole
@@ -171,5 +175,6 @@ module _ (p : ProblemParts) (t : RungParts) (rung : IsRung p t) (cover : List �
           within = named.within;
           each = λ head step d head_in step_in. is_record head step head_in step_in d;
           told = lead_told;
+          twice = twice_is;
           fitting = fitting;
         }

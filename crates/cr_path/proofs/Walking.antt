@@ -1,38 +1,80 @@
 -- What a numbered walk keeps, a step on and a step back.
-use Rattle.std.proofs.Common.{◌≡◌, ℕ, ◌+◌, ◌-◌, ◌*◌, ◌<◌, ◌≤◌, Bool, true, false, List, length, get_or, sym, ap, ◌∙◌, subst, inl, inr, refl, arith, All}
+use Rattle.std.proofs.Common.{◌≡◌, ℕ, zero, suc, ◌+◌, ◌-◌, ◌<◌, ◌≤◌, Bool, true, false, List, [], ◌∷◌, length, get_or, take, sym, ap, ◌∙◌, subst, inl, inr, refl, arith, All}
+use Rattle.std.specs.Prelude.{replicate}
 use Rattle.std.proofs.lemmas.Bool.{cases_Bool, cases_eq, false≢true}
-use Rattle.std.proofs.lemmas.List.{length_push, get_or_push}
+use Rattle.std.proofs.lemmas.List.{length_push, get_or_push, length-replicate, get_or-replicate}
 use Rattle.cr_model.specs.Problems.{ProblemParts}
 use Rattle.cr_model.specs.Callings.{rows_of, head_of}
 use Rattle.cr_model.specs.Decided.{rows_differ}
 use Rattle.cr_model.specs.Nodes.{IsValid}
 use Rattle.cr_model.specs.Sizes.{child}
 use Rattle.cr_model.specs.Sound.{IsSound}
-use Rattle.cr_leads.specs.Tables.{TableParts}
+use Rattle.cr_model.specs.Dead.{turn_free}
+use Rattle.cr_leads.specs.Tables.{TableParts, lead_table}
 use Rattle.cr_path.specs.declared.counting.Counting.{Counting}
 use Rattle.cr_path.specs.declared.ends.LeadEnd.{LeadEnd}
 use Rattle.cr_path.specs.declared.table.LeadRecord.{LeadRecord}
 use Rattle.cr_path.specs.Counted.{IsCounted}
 use Rattle.cr_path.specs.Ends.{IsEnd, AreEnds}
 use Rattle.cr_path.specs.Marks.{MarksParts, AreSet, AreMarked}
-use Rattle.cr_path.specs.Numbers.{NumberParts, numbers_of, IsRecord}
+use Rattle.cr_path.specs.Numbers.{NumberParts, numbers_of, comes_home, IsBase, IsRecord, IsNumbered}
 use Rattle.cr_path.specs.Walks.{IsWalk, parent}
 use Rattle.cr_path.proofs.Children.{child_head, child_length, part_few, few_leads, valid_first, last_step}
 use Rattle.cr_path.proofs.Marking.{within_in, marked_more, marked_less, marked_same, marked_stays}
-use Rattle.cr_path.proofs.Enough.{lead_known}
+use Rattle.cr_path.proofs.Places.{record_at, root_base}
+use Rattle.cr_path.proofs.Homes.{root_home}
+
+-- what is read past the last record
+pub no_record : LeadRecord
+no_record = record { next = 0; limit = 0; length = 0; home = false }
+
+-- before any lead
+abbrev pub root_end : LeadEnd
+root_end = record { base = 0; rung = 0; uncut = 0; home = true }
+
+root_ends : (p : ProblemParts) (t : NumberParts) → IsNumbered p t → (i : ℕ) (d : LeadEnd) → i ≤ 0 → IsEnd p t (take i []) (get_or (root_end ∷ []) i d)
+root_ends p t numbered zero d within = record {
+  from = root_base p t numbered;
+  long = refl;
+  uncut = record { found = λ known_now. absurd (false≢true known_now) };
+  home = root_home p;
+}
+root_ends p t numbered (suc i) d within = absurd (omega (arith, within))
+
+pub root_walk : (p : ProblemParts) (leads : TableParts) (t : NumberParts) (counting : Counting) (free : Bool) → IsSound p → leads ≡ lead_table p → IsNumbered p t
+    → IsCounted p [] counting → free ≡ turn_free p.query → IsWalk p leads t [] (root_end ∷ []) (replicate (length t.rows) false) 0 counting free
+root_walk p leads t counting free sound table numbered counted free_is = record {
+  sound = sound;
+  table = table;
+  numbered = numbered;
+  valid = record {
+    steps = λ i d low. absurd (omega (arith, low));
+    short = omega arith;
+  };
+  ends = record { number = refl; each = root_ends p t numbered };
+  marked = record {
+    within = omega arith;
+    counted = length-replicate (length t.rows) false;
+    of = λ number inside. get_or-replicate (length t.rows) number false false inside;
+    differ = refl;
+    again = λ low. absurd (omega (arith, low));
+  };
+  counted = counted;
+  free = free_is;
+}
 
 -- the end of one lead more
-pub next_end : (p : ProblemParts) (t : NumberParts) (node : List ℕ) (step : ℕ) (end : LeadEnd) (lead : LeadRecord) → IsEnd p t node end → IsRecord p t (head_of p node) step lead
-    → IsEnd p t (child node step) (record { head = lead.next; rung = end.rung + lead.length; uncut = 0 })
+pub next_end : (p : ProblemParts) (t : NumberParts) (node : List ℕ) (step : ℕ) (end : LeadEnd) (lead : LeadRecord) → IsEnd p t node end → IsRecord p t (head_of p node) step (end.base + step) lead
+    → IsEnd p t (child node step) (record { base = lead.next; rung = end.rung + lead.length; uncut = 0; home = lead.home })
 next_end p t node step end lead at_end known = record {
-  numbered = known.next;
-  is = known.leads_to ∙ sym (child_head p node step);
+  from = subst (λ (row : List ℕ). IsBase t row lead.next) (sym (child_head p node step)) known.next;
   long = omega (arith, at_end.long, known.long, child_length p node step);
   uncut = record { found = λ known_now. absurd (false≢true known_now) };
+  home = known.home ∙ ap (comes_home p) (sym (child_head p node step));
 }
 
 -- its length fits
-pub end_few : (p : ProblemParts) (t : NumberParts) (node : List ℕ) (step : ℕ) (end : LeadEnd) (lead : LeadRecord) → IsEnd p t node end → IsRecord p t (head_of p node) step lead → IsSound p → IsValid p (child node step)
+pub end_few : (p : ProblemParts) (t : NumberParts) (node : List ℕ) (step : ℕ) (end : LeadEnd) (lead : LeadRecord) → IsEnd p t node end → IsRecord p t (head_of p node) step (end.base + step) lead → IsSound p → IsValid p (child node step)
     → end.rung + lead.length ≤ 12000
 end_few p t node step end lead at_end known sound valid =
     omega (arith, at_end.long, known.long, child_length p node step, valid.short, part_few p sound)
@@ -48,41 +90,45 @@ module _ (p : ProblemParts) (leads : TableParts) (t : NumberParts) (node : List 
   pub step_tabled : (step : ℕ) → step < length p.leads → step < t.steps
   step_tabled step inside = omega (arith, is.numbered.counted, inside)
 
-  -- and of the last step
-  pub above_known : (step index : ℕ) (end : LeadEnd) (lead : LeadRecord) → 0 < length node → index ≡ length node - 1 → step ≡ get_or node index 0 → IsEnd p t (parent node) end → lead ≡ get_or t.records (end.head * t.steps + step) lead
-      → IsRecord p t (head_of p (parent node)) step lead
-  above_known step index end lead some last at_step at_end found =
-      lead_known p t is.numbered (parent node) end step lead at_end (step_known p (parent node) step (subst (IsValid p) (last_step node step index some last at_step) is.valid)) found
+  -- it is that of a lead from an end
+  pub from_end : (calling : List ℕ) (end : LeadEnd) (step place : ℕ) (lead d : LeadRecord) → IsEnd p t calling end → step < length p.leads → place ≡ end.base + step
+      → lead ≡ get_or t.records place d → IsRecord p t (head_of p calling) step (end.base + step) lead
+  from_end calling end step place lead d at_end inside place_is found =
+      record_at t (head_of p calling) end.base at_end.from step p is.numbered inside lead d (found ∙ ap (λ (n : ℕ). get_or t.records n d) place_is)
+
+  -- the last step
+  pub last_known : (step index : ℕ) → 0 < length node → index ≡ length node - 1 → step ≡ get_or node index 0 → step < length p.leads
+  last_known step index some last at_step = step_known p (parent node) step (subst (IsValid p) (last_step node step index some last at_step) is.valid)
 
   -- numbers of a lead have marks
-  pub have_marks : (lead : LeadRecord) (numbers : List ℕ) → All (λ number. number < length t.rows) lead.near → numbers ≡ numbers_of t lead → All (λ number. number < length marks) numbers
-  have_marks lead numbers near are =
+  pub have_marks : (place : ℕ) (numbers : List ℕ) → numbers ≡ numbers_of t place → All (λ number. number < length marks) numbers
+  have_marks place numbers are =
       subst (λ n. All (λ number. number < n) numbers) (sym is.marked.counted)
-      (subst (λ list. All (λ number. number < length t.rows) list) (sym are) (within_in p t is.numbered lead near))
+      (subst (λ list. All (λ number. number < length t.rows) list) (sym are) (within_in p t is.numbered place))
 
   pub few_fresh : fresh ≤ 1024
   few_fresh = omega (arith, is.marked.within, few_leads p node is.sound is.valid)
 
   -- the marks of a child, where it is known whether its rows differ
-  pub marked_on : (step : ℕ) (lead : LeadRecord) (numbers : List ℕ) (is_new : Bool) (next : MarksParts) → IsRecord p t (head_of p node) step lead → numbers ≡ numbers_of t lead →
+  pub marked_on : (step place : ℕ) (lead : LeadRecord) (numbers : List ℕ) (is_new : Bool) (next : MarksParts) → IsRecord p t (head_of p node) step place lead → numbers ≡ numbers_of t place →
       is_new ≡ rows_differ (rows_of p (child node step)) → length next.marks ≡ length marks → (is_new ≡ true → AreSet true numbers marks next.marks × (next.fresh ≡ fresh + 1)) → (is_new ≡ false → next ≡ record { marks = marks; fresh = fresh }) →
       AreMarked p t (child node step) next.marks next.fresh
-  marked_on step lead numbers is_new next known are new long added same = elim (cases_Bool is_new) [
-    | inl more ↦ subst (AreMarked p t (child node step) next.marks) (sym (added more).1) (marked_more p t node step lead known numbers are marks next.marks fresh is.marked long (sym new ∙ more) (added more).0)
+  marked_on step place lead numbers is_new next known are new long added same = elim (cases_Bool is_new) [
+    | inl more ↦ subst (AreMarked p t (child node step) next.marks) (sym (added more).1) (marked_more p t node step place lead known numbers are marks next.marks fresh is.marked long (sym new ∙ more) (added more).0)
     | inr twice ↦ subst (λ (m : MarksParts). AreMarked p t (child node step) m.marks m.fresh) (sym (same twice)) (marked_same p t node step marks fresh is.marked (sym new ∙ twice))
   ]
 
   -- and back from a child
-  pub marked_back : (above : List ℕ) (step leads_now : ℕ) (lead : LeadRecord) (numbers : List ℕ) (next : MarksParts) → node ≡ child above step → leads_now ≡ length node → IsRecord p t (head_of p above) step lead → numbers ≡ numbers_of t lead →
+  pub marked_back : (above : List ℕ) (step place leads_now : ℕ) (lead : LeadRecord) (numbers : List ℕ) (next : MarksParts) → node ≡ child above step → leads_now ≡ length node → IsRecord p t (head_of p above) step place lead → numbers ≡ numbers_of t place →
       length next.marks ≡ length marks → (fresh ≡ leads_now → AreSet false numbers marks next.marks × (next.fresh ≡ leads_now - 1)) → ((fresh ≡ leads_now → ⊥) → next ≡ record { marks = marks; fresh = fresh }) →
       AreMarked p t above next.marks next.fresh
-  marked_back above step leads_now lead numbers next whole counts known are long taken same =
+  marked_back above step place leads_now lead numbers next whole counts known are long taken same =
       let before : AreMarked p t (child above step) marks fresh = subst (λ word. AreMarked p t word marks fresh) whole is.marked in
       let counted_now : leads_now ≡ length (child above step) = counts ∙ ap length whole in
       elim (cases_eq fresh leads_now) [
         | inl all ↦
             let left : next.fresh ≡ length above = omega (arith, (taken all).1, counted_now, length_push above step) in
-            subst (AreMarked p t above next.marks) (sym left) (marked_less p t above step lead known numbers are marks next.marks fresh before long (all ∙ counted_now) (taken all).0)
+            subst (AreMarked p t above next.marks) (sym left) (marked_less p t above step place lead known numbers are marks next.marks fresh before long (all ∙ counted_now) (taken all).0)
         | inr some ↦ subst (λ (m : MarksParts). AreMarked p t above m.marks m.fresh) (sym (same some)) (marked_stays p t above step marks fresh before (λ all. some (all ∙ sym counted_now)))
       ]
 

@@ -1,5 +1,5 @@
 -- Which rotation of a calling that meets the patterns is the least.
-use Rattle.std.specs.Prelude.{◌≡◌, ℕ, ◌<◌, List, [], length, get_or}
+use Rattle.std.specs.Prelude.{◌≡◌, ℕ, ◌<◌, List, length}
 use Rattle.cr_model.specs.declared.query.Cell.{Cell}
 use Rattle.cr_model.specs.Problems.{ProblemParts}
 use Rattle.cr_model.specs.Callings.{rows_of, head_of}
@@ -7,7 +7,7 @@ use Rattle.cr_model.specs.Decided.{rotated}
 use Rattle.cr_model.specs.Queries.{rows_fitting}
 use Rattle.cr_model.specs.Touches.{IsLess}
 use Rattle.cr_query.specs.Meeting.{MeetsByRows}
-use Rattle.cr_path.specs.Numbers.{NumberParts}
+use Rattle.cr_path.specs.Numbers.{NumberParts, IsBase}
 use Rattle.cr_path.specs.declared.turning.Way.{Way}
 
 -- no rotation is less and meets each pattern
@@ -19,7 +19,7 @@ pub record IsBest (p : ProblemParts) (calling : List ℕ) : Type 0 where
   pub meets : MeetsByRows p (rows_of p calling)
   pub least : HasNoneBetter p calling
 
--- the number of the head after a calling, and how many of its rows fit some cells
+-- where the records of the head after a calling start, and how many of its rows fit some cells
 pub record IsWay (p : ProblemParts) (t : NumberParts) (cells : List Cell) (calling : List ℕ) (way : Way) : Type 0 where
-  pub head : get_or t.heads way.head [] ≡ head_of p calling
+  pub base : IsBase t (head_of p calling) way.base
   pub number : way.number ≡ rows_fitting cells (rows_of p calling)

@@ -1,10 +1,10 @@
 -- What is counted of a node, where the query asks for it.
-use Rattle.std.specs.Prelude.{◌≡◌, ℕ, not, nat_eq, List, [], length, get_or, Option, Some, None}
+use Rattle.std.specs.Prelude.{◌≡◌, ℕ, ◌+◌, ◌<◌, not, nat_eq, List, [], length, Option, Some, None}
 use Rattle.cr_model.specs.Problems.{ProblemParts, QueryParts}
 use Rattle.cr_model.specs.Callings.{head_of}
-use Rattle.cr_leads.specs.Tables.{TableParts, lead_table}
+use Rattle.cr_model.specs.Sound.{IsSound}
 use Rattle.cr_query.specs.Meters.{MeterParts, meter_from}
-use Rattle.cr_path.specs.Numbers.{NumberParts}
+use Rattle.cr_path.specs.Numbers.{NumberParts, IsBase, IsNumbered}
 use Rattle.cr_path.specs.declared.counting.Counting.{Counting}
 
 -- a query has no counts, no patterns and no limits on changes of method
@@ -23,7 +23,11 @@ pub record IsCounted (p : ProblemParts) (node : List ℕ) (counting : Counting) 
   pub meter : IsMeterOf p node counting.meter
   pub patterns : counting.patterns ≡ not (nat_eq (length p.query.patterns) 0)
 
--- a meter can be told of a lead from the head with a number, which is the last row of a node
-pub record CanCount (leads : TableParts) (t : NumberParts) (head : ℕ) (node : List ℕ) (meter : MeterParts) : Type 0 where
-  pub table : leads ≡ lead_table meter.problem
-  pub head_is : get_or t.heads head [] ≡ head_of meter.problem node
+-- a meter can be told of the lead at a place, which is that of a step after a node
+pub record CanCount (t : NumberParts) (place step : ℕ) (node : List ℕ) (meter : MeterParts) : Type 0 where
+  pub sound : IsSound meter.problem
+  pub numbered : IsNumbered meter.problem t
+  pub known : step < length meter.problem.leads
+  pub base : ℕ
+  pub from : IsBase t (head_of meter.problem node) base
+  pub is : place ≡ base + step

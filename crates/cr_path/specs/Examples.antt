@@ -1,22 +1,24 @@
 -- The numbers of Plain Bob Minimus, two leads that have rows in common, and problems of its lead with another query.
-use Rattle.std.specs.Prelude.{ℕ, ◌+◌, false, [], ◌∷◌}
+use Rattle.std.specs.Prelude.{ℕ, ◌+◌, Bool, true, false, [], ◌∷◌}
 use Rattle.cr_model.specs.Problems.{QueryParts, ProblemParts}
 use Rattle.cr_model.specs.Examples.{minimus, pair, asks}
 use Rattle.cr_path.specs.declared.table.LeadRecord.{LeadRecord}
 use Rattle.cr_path.specs.Numbers.{NumberParts}
 
--- the record of a lead of eight changes, true in itself and with one telling row
-abbrev pub lead_at : ℕ → ℕ → ℕ → LeadRecord
-lead_at next number limit = record { next = next; near = number ∷ number ∷ number ∷ []; start = 0; limit = limit; count = 0; length = 8; twice = false }
+-- the record of a lead of eight changes
+abbrev pub lead_at : ℕ → ℕ → Bool → LeadRecord
+lead_at next limit home = record { next = next; limit = limit; length = 8; home = home }
 
--- three heads, and three telling rows: rounds, which is the last row of the third lead, and the first rows of the other two. No two leads have a row in common. Home is two leads from the end of the first lead, and one from that of the second
+-- three heads, and three telling rows: rounds, which is the last row of the third lead, and the first rows of the other two. No two leads have a row in common. Home is two leads from the end of the first lead, one from that of the second, and at the end of the third
 abbrev pub minimus_numbers : NumberParts
 minimus_numbers = record {
   steps = 1;
   heads = (1 ∷ 2 ∷ 3 ∷ 4 ∷ []) ∷ (1 ∷ 3 ∷ 4 ∷ 2 ∷ []) ∷ (1 ∷ 4 ∷ 2 ∷ 3 ∷ []) ∷ [];
   rows = (1 ∷ 2 ∷ 3 ∷ 4 ∷ []) ∷ (2 ∷ 1 ∷ 4 ∷ 3 ∷ []) ∷ (3 ∷ 1 ∷ 2 ∷ 4 ∷ []) ∷ [];
-  records = lead_at 1 1 1 ∷ lead_at 2 2 9 ∷ lead_at 0 0 17 ∷ [];
-  numbers = [];
+  records = lead_at 1 1 false ∷ lead_at 2 9 false ∷ lead_at 0 17 true ∷ [];
+  width = 1;
+  numbers = 1 ∷ 2 ∷ 0 ∷ [];
+  twice = false ∷ [];
   fittings = [];
 }
 
@@ -29,8 +31,10 @@ called_numbers place = record {
   steps = 2;
   heads = (1 ∷ 2 ∷ 3 ∷ 4 ∷ []) ∷ [];
   rows = (1 ∷ 2 ∷ 3 ∷ 4 ∷ []) ∷ (2 ∷ 1 ∷ 4 ∷ 3 ∷ []) ∷ (1 ∷ 3 ∷ 4 ∷ 2 ∷ []) ∷ [];
-  records = lead_at 0 (place + 1) 1 ∷ lead_at 0 1 1 ∷ [];
-  numbers = [];
+  records = lead_at 0 1 false ∷ lead_at 0 1 false ∷ [];
+  width = 1;
+  numbers = (place + 1) ∷ 1 ∷ [];
+  twice = false ∷ false ∷ [];
   fittings = [];
 }
 

@@ -38,8 +38,8 @@ pub record AreMarked (p : ProblemParts) (t : NumberParts) (node : List ℕ) (mar
 abbrev pub row_at : NumberParts → ℕ → List ℕ
 row_at t number = get_or t.rows number []
 
--- the record of a step that is rung after a node, of which the telling rows are enough
-pub record IsLead (p : ProblemParts) (t : NumberParts) (node : List ℕ) (step : ℕ) (lead : LeadRecord) : Type 0 where
-  pub known : IsRecord p t (head_of p node) step lead
+-- the record of a step that is rung after a node, at a place, of which the telling rows are enough
+pub record IsLead (p : ProblemParts) (t : NumberParts) (node : List ℕ) (step place : ℕ) (lead : LeadRecord) : Type 0 where
+  pub known : IsRecord p t (head_of p node) step place lead
   pub told : list_any (is_listed (rows_of p node)) (lead_from p (head_of p node) step)
-      ≡ list_any (is_listed (rows_of p node)) (map (row_at t) (numbers_of t lead))
+      ≡ list_any (is_listed (rows_of p node)) (map (row_at t) (numbers_of t place))

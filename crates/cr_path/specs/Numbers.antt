@@ -1,5 +1,6 @@
 -- Lead heads and leads by numbers, as contracts see them.
-use Rattle.std.specs.Prelude.{◌≡◌, ℕ, ◌+◌, ◌-◌, ◌*◌, ◌<◌, ◌≤◌, Bool, not, ◌&&◌, ◌||◌, nat_lt, nat_eq, List, [], ◌∷◌, ◌++◌, length, get_or, map, flat_map, take, drop, All}
+use Rattle.std.specs.Prelude.{◌≡◌, ℕ, zero, suc, ◌+◌, ◌-◌, ◌*◌, ◌<◌, ◌≤◌, Bool, not, ◌&&◌, ◌||◌, nat_lt, nat_eq, List, [], ◌∷◌, length, get_or, map, flat_map, take, drop, All}
+use Rattle.std.specs.Cmp.Lexicographic.{pointwise}
 use Rattle.std.specs.List.{list_any, range_with_len}
 use Rattle.cr_row.specs.Rows.{rounds, product}
 use Rattle.cr_model.specs.declared.query.Cell.{Cell}
@@ -10,15 +11,18 @@ use Rattle.cr_model.specs.Decided.{rows_differ}
 use Rattle.cr_model.specs.Dead.{parts_of, has_rounds}
 use Rattle.cr_model.specs.Levels.{at_least, is_listed}
 use Rattle.cr_model.specs.Sizes.{most_rows}
+use Rattle.cr_path.specs.Facts.{false_leads}
 use Rattle.cr_path.specs.declared.table.LeadRecord.{LeadRecord}
 
--- the number of steps; the heads, each at its number; the telling rows, each at its number; a record of each lead, of the first head's steps first; the further numbers of the telling rows of all leads; and of each pattern, in the order of the records, how many rows of each lead fit it
+-- the number of steps; the heads, each at its number; the telling rows, each at its number; a record of each lead, of the first head's steps first; how many numbers each lead has, and in the order of the records the numbers of the telling rows of all leads; of each step whether its lead has a row twice; and of each pattern, in the order of the records, how many rows of each lead fit it
 pub record NumberParts : Type 0 where
   pub steps : ℕ
   pub heads : List (List ℕ)
   pub rows : List (List ℕ)
   pub records : List LeadRecord
+  pub width : ℕ
   pub numbers : List ℕ
+  pub twice : List Bool
   pub fittings : List (List ℕ)
 
 -- the rows of a step that is rung from a head, and the head after it
@@ -52,26 +56,44 @@ dies_after p head step rung =
     || (brings_home p (lead_from p head step)
     || nat_lt (cap p) (rung + lead_length p step + shortest p * at_least p most_rows (head_after p head step))))
 
--- the numbers of a lead's telling rows: those in its record, where some may stand twice, and the further ones
-abbrev pub numbers_of : NumberParts → LeadRecord → List ℕ
-numbers_of t lead = lead.near ++ take lead.count (drop lead.start t.numbers)
+-- rounds of a stage by a row, so many times
+unfoldable pub power : ℕ → List ℕ → ℕ → List ℕ
+power stage row zero = rounds stage
+power stage row (suc number) = product (power stage row number) row
 
--- a record of a step that is rung from a head: the head that it leads to, the length below which it may live, its number of changes, whether it has a row twice in itself, and the numbers of the telling rows that stand in it
-pub record IsRecord (p : ProblemParts) (t : NumberParts) (head : List ℕ) (step : ℕ) (lead : LeadRecord) : Type 0 where
-  pub next : lead.next < length t.heads
-  pub leads_to : get_or t.heads lead.next [] ≡ head_after p head step
+-- a row leads to rounds as often as there are parts
+abbrev pub comes_home : ProblemParts → List ℕ → Bool
+comes_home p row = pointwise nat_eq (power p.stage row (parts_of p)) (rounds p.stage)
+
+-- the numbers of the telling rows of the lead at a place, where some may stand twice
+abbrev pub numbers_of : NumberParts → ℕ → List ℕ
+numbers_of t place = take t.width (drop (place * t.width) t.numbers)
+
+-- where the records of the head that is this row start
+pub record IsBase (t : NumberParts) (row : List ℕ) (base : ℕ) : Type 0 where
+  pub number : ℕ
+  pub numbered : number < length t.heads
+  pub starts : base ≡ number * t.steps
+  pub is : get_or t.heads number [] ≡ row
+
+-- the records of some head start here
+pub record StartsHead (t : NumberParts) (base : ℕ) : Type 0 where
+  pub row : List ℕ
+  pub is : IsBase t row base
+
+-- a record of a step that is rung from a head, at a place: where the records of the head that it leads to start, whether that comes home, the length below which it may live, its number of changes, and the numbers of the telling rows that stand in it
+pub record IsRecord (p : ProblemParts) (t : NumberParts) (head : List ℕ) (step place : ℕ) (lead : LeadRecord) : Type 0 where
+  pub next : IsBase t (head_after p head step) lead.next
+  pub home : lead.home ≡ comes_home p (head_after p head step)
   pub limit : (rung : ℕ) → nat_lt rung lead.limit ≡ not (dies_after p head step rung)
   pub long : lead.length ≡ lead_length p step
-  pub twice : lead.twice ≡ not (rows_differ (rows_of p (step ∷ [])))
-  pub near : All (λ number. number < length t.rows) lead.near
-  pub within : lead.start + lead.count ≤ length t.numbers
-  pub are : (number : ℕ) → number < length t.rows → list_any (nat_eq number) (numbers_of t lead) ≡ is_listed (lead_from p head step) (get_or t.rows number [])
+  pub are : (number : ℕ) → number < length t.rows → list_any (nat_eq number) (numbers_of t place) ≡ is_listed (lead_from p head step) (get_or t.rows number [])
 
 -- of some rows the telling ones are enough: a lead has one of them exactly where one of its telling rows is one of them
 abbrev pub IsTold : ProblemParts → NumberParts → List (List ℕ) → Type 0
-IsTold p t rows = (head step : ℕ) (d : LeadRecord) → head < length t.heads → step < t.steps
+IsTold p t rows = (head step : ℕ) → head < length t.heads → step < t.steps
     → list_any (is_listed rows) (lead_from p (get_or t.heads head []) step)
-    ≡ list_any (is_listed rows) (map (λ number. get_or t.rows number []) (numbers_of t (get_or t.records (head * t.steps + step) d)))
+    ≡ list_any (is_listed rows) (map (λ number. get_or t.rows number []) (numbers_of t (head * t.steps + step)))
 
 -- they are numbers of a problem: rounds is the first head and the first row, and two leads have a row in common exactly where they have a telling row in common
 pub record IsNumbered (p : ProblemParts) (t : NumberParts) : Type 0 where
@@ -82,11 +104,14 @@ pub record IsNumbered (p : ProblemParts) (t : NumberParts) : Type 0 where
   pub first_row : get_or t.rows 0 [] ≡ rounds p.stage
   pub within : All (λ number. number < length t.rows) t.numbers
   pub each : (head step : ℕ) (d : LeadRecord) → head < length t.heads → step < t.steps
-      → IsRecord p t (get_or t.heads head []) step (get_or t.records (head * t.steps + step) d)
+      → IsRecord p t (get_or t.heads head []) step (head * t.steps + step) (get_or t.records (head * t.steps + step) d)
   pub told : (head step : ℕ) → head < length t.heads → step < t.steps → IsTold p t (lead_from p (get_or t.heads head []) step)
+  pub twice : t.twice ≡ false_leads p (length p.leads)
   pub fitting : t.fittings ≡ map (all_fitting p t.heads) p.query.patterns
 
 -- what the fields keep
 pub record AreKept (t : NumberParts) : Type 0 where
+  pub some : 0 < t.steps
   pub steps : t.steps ≤ 24
   pub records : length t.records ≡ length t.heads * t.steps
+  pub numbers : length t.numbers ≡ length t.records * t.width

@@ -1,23 +1,27 @@
 -- Parts that are gone through by numbers.
-use Rattle.std.specs.Prelude.{◌≡◌, ℕ, ◌<◌, true, false, List, [], length, get_or, Option, Some, None}
+use Rattle.std.specs.Prelude.{◌≡◌, ℕ, true, false, List, length, Option, Some, None}
 use Rattle.std.specs.List.{list_any}
 use Rattle.cr_row.specs.Rows.{Places}
 use Rattle.cr_model.specs.Problems.{ProblemParts}
 use Rattle.cr_model.specs.Callings.{rows_from, last_of}
 use Rattle.cr_model.specs.Levels.{is_listed}
-use Rattle.cr_path.specs.Numbers.{NumberParts}
+use Rattle.cr_path.specs.Numbers.{NumberParts, IsBase}
 
--- the number of a head, which is a row of the stage
-pub record IsHead (p : ProblemParts) (t : NumberParts) (head : ℕ) : Type 0 where
-  pub numbered : head < length t.heads
-  pub long : length (get_or t.heads head []) ≡ p.stage
+-- a row of the stage that is a head whose records start here
+pub record IsHead (p : ProblemParts) (t : NumberParts) (row : List ℕ) (base : ℕ) : Type 0 where
+  pub from : IsBase t row base
+  pub long : length row ≡ p.stage
 
--- changes rung from a head: the number of the head after them, where they bring none of these rows, and else none
-pub record IsPassed (p : ProblemParts) (t : NumberParts) (rows : List (List ℕ)) (from : ℕ) (changes : List Places) (head : ℕ) : Type 0 where
-  pub is : IsHead p t head
-  pub last : get_or t.heads head [] ≡ last_of (get_or t.heads from []) (rows_from (get_or t.heads from []) changes)
-  pub new : list_any (is_listed rows) (rows_from (get_or t.heads from []) changes) ≡ false
+-- the records of some such row start here
+pub record HasHead (p : ProblemParts) (t : NumberParts) (base : ℕ) : Type 0 where
+  pub row : List ℕ
+  pub is : IsHead p t row base
 
-abbrev pub Passes : ProblemParts → NumberParts → List (List ℕ) → ℕ → List Places → Option ℕ → Type 0
-Passes p t rows from changes None = list_any (is_listed rows) (rows_from (get_or t.heads from []) changes) ≡ true
-Passes p t rows from changes (Some head) = IsPassed p t rows from changes head
+-- changes rung from a row: where the records of the head after them start, if they bring none of these rows, and else none
+pub record IsPassed (p : ProblemParts) (t : NumberParts) (rows : List (List ℕ)) (from : List ℕ) (changes : List Places) (base : ℕ) : Type 0 where
+  pub is : IsHead p t (last_of from (rows_from from changes)) base
+  pub new : list_any (is_listed rows) (rows_from from changes) ≡ false
+
+abbrev pub Passes : ProblemParts → NumberParts → List (List ℕ) → List ℕ → List Places → Option ℕ → Type 0
+Passes p t rows from changes None = list_any (is_listed rows) (rows_from from changes) ≡ true
+Passes p t rows from changes (Some base) = IsPassed p t rows from changes base

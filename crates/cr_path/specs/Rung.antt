@@ -1,9 +1,8 @@
 -- Leads that are rung from all heads, with a number for each of their rows.
-use Rattle.std.specs.Prelude.{◌≡◌, ℕ, ◌+◌, ◌-◌, ◌*◌, ◌<◌, ◌≤◌, not, nat_lt, List, [], ◌∷◌, length, get_or, map, take, drop, All}
+use Rattle.std.specs.Prelude.{◌≡◌, ℕ, ◌+◌, ◌-◌, ◌*◌, ◌<◌, ◌≤◌, not, nat_lt, List, [], length, get_or, map, take, drop, All}
 use Rattle.cr_row.specs.Rows.{rounds}
 use Rattle.cr_model.specs.Problems.{ProblemParts}
-use Rattle.cr_model.specs.Callings.{lead_length, rows_of}
-use Rattle.cr_model.specs.Decided.{rows_differ}
+use Rattle.cr_model.specs.Callings.{lead_length}
 use Rattle.cr_rowset.specs.Stacks.{AllDiffer}
 use Rattle.cr_path.specs.Numbers.{lead_from, head_after, dies_after}
 use Rattle.cr_path.specs.declared.numbering.RungLead.{RungLead}
@@ -27,13 +26,12 @@ rung_rows t lead = map (λ number. get_or t.rows number []) (rung_numbers t.numb
 abbrev pub IsHeld : ℕ → RungLead → Type 0
 IsHeld long lead = (lead.start < lead.end) × (lead.end ≤ long)
 
--- a record of a step that is rung from a head: the head that it leads to, the length below which it may live, its number of changes, whether it has a row twice in itself, and the numbers of its rows
+-- a record of a step that is rung from a head: the head that it leads to, the length below which it may live, its number of changes, and the numbers of its rows
 pub record IsRungLead (p : ProblemParts) (t : RungParts) (head : List ℕ) (step : ℕ) (lead : RungLead) : Type 0 where
   pub next : lead.next < length t.heads
   pub leads_to : get_or t.heads lead.next [] ≡ head_after p head step
   pub limit : (rung : ℕ) → nat_lt rung lead.limit ≡ not (dies_after p head step rung)
   pub long : lead.length ≡ lead_length p step
-  pub twice : lead.twice ≡ not (rows_differ (rows_of p (step ∷ [])))
   pub held : IsHeld (length t.numbers) lead
   pub are : rung_rows t lead ≡ lead_from p head step
 

@@ -1,8 +1,8 @@
 -- The telling rows, and the leads by them.
-use Rattle.std.specs.Prelude.{◌≡◌, ℕ, ◌+◌, ◌<◌, ◌≤◌, nat_eq, List, [], ◌++◌, length, get_or, map, take, drop, All}
+use Rattle.std.specs.Prelude.{◌≡◌, ℕ, ◌-◌, ◌*◌, ◌<◌, Bool, false, nat_eq, List, [], ◌++◌, length, get_or, map, flat_map, replicate, take, drop, All}
 use Rattle.std.specs.List.{list_any}
 use Rattle.cr_rowset.specs.Pushing.{StandsAt}
-use Rattle.cr_path.specs.Rung.{rung_numbers}
+use Rattle.cr_path.specs.Rung.{rung_numbers, IsHeld}
 use Rattle.cr_path.specs.declared.numbering.RungLead.{RungLead}
 use Rattle.cr_path.specs.declared.table.LeadRecord.{LeadRecord}
 
@@ -25,26 +25,39 @@ HasName cover places below row = (row < length cover) × (get_or cover row 0 < l
 pub record AreSame (names now : List ℕ) : Type 0 where
   pub same : (name : ℕ) → list_any (nat_eq name) now ≡ list_any (nat_eq name) names
 
--- with those from the fourth on they are some names, and none else
-abbrev pub AreNear : List ℕ → List ℕ → Type 0
-AreNear names near = AreSame names (near ++ drop 3 names)
-
--- what a lead keeps of the one that was rung
-pub record IsLike (rung : RungLead) (lead : LeadRecord) : Type 0 where
-  pub next : lead.next ≡ rung.next
-  pub limit : lead.limit ≡ rung.limit
-  pub long : lead.length ≡ rung.length
-  pub twice : lead.twice ≡ rung.twice
-
--- a lead that was rung, by names
-pub record IsNamed (numbers : List ℕ) (name : ℕ → ℕ) (names : List ℕ) (rung : RungLead) (lead : LeadRecord) : Type 0 where
-  pub like : IsLike rung lead
-  pub within : lead.start + lead.count ≤ length names
-  pub same : (n : ℕ) → list_any (nat_eq n) (lead.near ++ take lead.count (drop lead.start names)) ≡ list_any (nat_eq n) (map name (rung_numbers numbers rung))
+-- a lead that was rung, with names in place of the numbers of its rows
+pub record IsListed (numbers : List ℕ) (name : ℕ → ℕ) (names : List ℕ) (rung lead : RungLead) : Type 0 where
+  pub held : IsHeld (length names) lead
+  pub same : AreSame (map name (rung_numbers numbers rung)) (rung_numbers names lead)
 
 -- the first so many leads, by names below a number
-pub record AreAllNamed (numbers : List ℕ) (name : ℕ → ℕ) (below : ℕ) (rung : List RungLead) (leads : List LeadRecord) (names : List ℕ) (done : ℕ) : Type 0 where
+pub record AreListed (numbers : List ℕ) (name : ℕ → ℕ) (below : ℕ) (rung leads : List RungLead) (names : List ℕ) (done : ℕ) : Type 0 where
   pub long : length leads ≡ done
-  pub near : All (λ (lead : LeadRecord). All (λ n. n < below) lead.near) leads
   pub within : All (λ n. n < below) names
-  pub each : (i : ℕ) (d : RungLead) (e : LeadRecord) → i < done → IsNamed numbers name names (get_or rung i d) (get_or leads i e)
+  pub each : (i : ℕ) (d e : RungLead) → i < done → IsListed numbers name names (get_or rung i d) (get_or leads i e)
+
+-- as many names as a width, with the first one again where they are fewer
+abbrev pub padded : ℕ → List ℕ → List ℕ
+padded width names = names ++ replicate (width - length names) (get_or names 0 0)
+
+-- those of some leads, one after another
+abbrev pub all_padded : ℕ → List ℕ → List RungLead → List ℕ
+all_padded width names leads = flat_map (λ lead. padded width (rung_numbers names lead)) leads
+
+-- what a lead keeps of the one that was rung, where each head has so many records, and these heads come home
+pub record IsLike (steps : ℕ) (homes : List Bool) (rung : RungLead) (lead : LeadRecord) : Type 0 where
+  pub next : lead.next ≡ rung.next * steps
+  pub home : lead.home ≡ get_or homes rung.next false
+  pub limit : lead.limit ≡ rung.limit
+  pub long : lead.length ≡ rung.length
+
+-- the same of the first so many leads
+pub record AreLike (steps : ℕ) (homes : List Bool) (rung : List RungLead) (leads : List LeadRecord) (done : ℕ) : Type 0 where
+  pub long : length leads ≡ done
+  pub each : (i : ℕ) (d : RungLead) (e : LeadRecord) → i < done → IsLike steps homes (get_or rung i d) (get_or leads i e)
+
+-- leads that were rung, each with so many names below a number
+pub record AreNamed (numbers : List ℕ) (name : ℕ → ℕ) (below width : ℕ) (rung : List RungLead) (names : List ℕ) : Type 0 where
+  pub long : length names ≡ length rung * width
+  pub within : All (λ n. n < below) names
+  pub each : (i : ℕ) (d : RungLead) → i < length rung → AreSame (map name (rung_numbers numbers (get_or rung i d))) (take width (drop (i * width) names))

@@ -10,7 +10,6 @@ ghost use Rattle.cr_path.specs.Counted.{AsksNothing, IsCounted, CanCount};
 ghost use Rattle.cr_path.specs.Living.{is_hopeless};
 
 use crate::table::NumberTable;
-use cr_leads::LeadTable;
 use cr_model::{Problem, Query};
 use cr_query::Meter;
 use cr_row::NoMemory;
@@ -45,28 +44,28 @@ impl Counting {
         })
     }
 
-    /// Goes to the node with this step more, which is rung from the head with this number.
-    pub fn add_lead(&mut self, leads: &LeadTable, numbers: &NumberTable, head: u32, step: u8)
-        requires head { head < length numbers.now.heads }
+    /// Goes to the node with this step more, whose lead is the one at this place. It stays a call, so that going on is
+    /// short where nothing is counted.
+    #[inline(never)]
+    pub fn add_lead(&mut self, numbers: &NumberTable, place: usize, step: u8)
         requires few { IfSome self.old.meter (λ meter. length meter.node < 1024) }
-        requires step { IfSome self.old.meter (λ meter. step < length meter.problem.leads) }
-        requires from { IfSome self.old.meter (λ meter. CanCount leads.now numbers.now head meter.node meter) }
+        requires lead { IfSome self.old.meter (λ meter. CanCount numbers.now place step meter.node meter) }
         ensures { (p : ProblemParts) (node : List ℕ) → IsCounted p node self.old → IsCounted p (child node step) self.new }
     {
         if let Some(meter) = &mut self.meter {
-            meter.add_lead(leads, step, &numbers.head_at(head));
+            meter.add_counted(step, numbers.fits_at(place).numbers());
         }
     }
 
-    /// Goes back to the node without its last step, which is this one and was rung from the head with this number.
-    pub fn take_back(&mut self, leads: &LeadTable, numbers: &NumberTable, head: u32, step: u8)
-        requires head { head < length numbers.now.heads }
+    /// Goes back to the node without its last step, which is this one and whose lead is the one at this place.
+    #[inline(never)]
+    pub fn take_back(&mut self, numbers: &NumberTable, place: usize, step: u8)
         requires last { IfSome self.old.meter (λ meter. meter.node ≡ child (parent meter.node) step) }
-        requires from { IfSome self.old.meter (λ meter. CanCount leads.now numbers.now head (parent meter.node) meter) }
+        requires lead { IfSome self.old.meter (λ meter. CanCount numbers.now place step (parent meter.node) meter) }
         ensures { (p : ProblemParts) (node : List ℕ) → IsCounted p node self.old → IsCounted p (parent node) self.new }
     {
         if let Some(meter) = &mut self.meter {
-            meter.take_back(leads, step, &numbers.head_at(head));
+            meter.take_back_counted(step, numbers.fits_at(place).numbers());
         }
     }
 

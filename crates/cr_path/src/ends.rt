@@ -1,6 +1,6 @@
 //! Where the leads of a node end, by numbers.
 
-ghost use Rattle.std.specs.Prelude.{◌≡◌, ◌-◌, ◌<◌, ◌≤◌, ℕ, List, [], ◌∷◌, length, take, IfOk};
+ghost use Rattle.std.specs.Prelude.{◌≡◌, ◌-◌, ◌<◌, ◌≤◌, ℕ, List, true, [], ◌∷◌, length, take, IfOk};
 ghost use Rattle.cr_model.specs.Problems.{ProblemParts};
 ghost use Rattle.cr_model.specs.Sizes.{child};
 ghost use Rattle.cr_path.specs.Numbers.{NumberParts};
@@ -14,13 +14,17 @@ use std::marker::Model;
 // The most ends: one before all leads, and one after each of 1,024 leads.
 const ROOM: usize = 1025;
 
-/// Where a lead ends: the number of the head there, and how many changes have been rung so far.
+/// Where a lead ends.
 #[derive(Clone, Copy, Drop)]
 pub struct LeadEnd {
-    pub head: u32,
+    /// Where the records of the head there start.
+    pub base: u32,
+    /// How many changes have been rung so far.
     pub rung: u32,
     /// The set of steps by which the children are not cut, once it is known.
     pub uncut: u32,
+    /// Whether the head, as often as the query has parts, leads to rounds.
+    pub home: bool,
 }
 
 /// The ends of a node's leads, with one before all of them.
@@ -47,12 +51,13 @@ impl Model for Ends {
 impl Ends {
     /// The end before all leads, at the first head. All memory that 1,024 leads need is taken here.
     pub fn new(alloc: Global) -> Result<Ends, NoMemory>
-        ensures { IfOk result (λ ends. ends ≡ record { head = 0; rung = 0; uncut = 0 } ∷ []) }
+        ensures { IfOk result (λ ends. ends ≡ record { base = 0; rung = 0; uncut = 0; home = true } ∷ []) }
     {
         let start = LeadEnd {
-            head: 0,
+            base: 0,
             rung: 0,
             uncut: 0,
+            home: true,
         };
         let ends = Vec::from_elem(alloc, start, ROOM)?;
         Ok(Ends { ends, last: 0 })

@@ -1,6 +1,6 @@
 //! The leads of a problem, rung from any head.
 
-ghost use Rattle.std.specs.Prelude.{◌≡◌, ℕ, ◌+◌, ◌*◌, ◌^◌, ◌<◌, ◌≤◌, Bool, ◌||◌, ◌&&◌, not, nat_lt, nat_eq, List, [], ◌∷◌, length, take, drop, All, IfOk};
+ghost use Rattle.std.specs.Prelude.{◌≡◌, ℕ, ◌+◌, ◌*◌, ◌^◌, ◌<◌, ◌≤◌, Bool, ◌||◌, ◌&&◌, not, nat_lt, nat_eq, nat_abs, List, [], ◌∷◌, length, take, drop, All, IfOk};
 ghost use Rattle.std.specs.List.{list_any};
 ghost use Rattle.cr_row.specs.Rows.{rounds};
 ghost use Rattle.cr_model.specs.Callings.{rows_of, changes_at, lead_length, shortest};
@@ -9,7 +9,7 @@ ghost use Rattle.cr_model.specs.Sizes.{most_rows};
 ghost use Rattle.cr_model.specs.Right.{FitsStage, pattern_at};
 ghost use Rattle.cr_leads.specs.Tables.{lead_table};
 ghost use Rattle.cr_reach.specs.Tables.{reach_table};
-ghost use Rattle.cr_path.specs.Numbers.{lead_from, head_after, brings_home, dies_after};
+ghost use Rattle.cr_path.specs.Numbers.{lead_from, head_after, brings_home, dies_after, power, comes_home};
 ghost use Rattle.cr_path.specs.Facts.{has_row_twice};
 ghost use Rattle.cr_path.specs.Leads.{has_first};
 
@@ -71,8 +71,11 @@ impl<'a> Leads<'a> {
     /// The number of steps.
     pub fn count(&self) -> u8
         ensures is { result ≡ length self.now.leads }
+        ensures some { 0 < result }
         ensures few { result ≤ 24 }
     {
+        // A problem keeps all of its checks.
+        let _ = self.problem.stage();
         self.leads.count()
     }
 
@@ -127,6 +130,15 @@ impl<'a> Leads<'a> {
         ensures same_stage { length result ≡ self.now.stage }
     {
         head.times(&self.leads.head_of(step))
+    }
+
+    /// Whether a head leads to rounds as often as the query has parts.
+    pub fn comes_home(&self, head: &Row) -> bool
+        requires { length head.now ≡ self.now.stage }
+        ensures { result ≡ comes_home self.now head.now }
+    {
+        let stage = self.problem.stage();
+        power(stage, head, parts_of(self.problem.query())) == Row::rounds(stage)
     }
 
     /// Whether a lead with rows of these numbers, where rounds has number 0, brings rounds before its last row, or there
@@ -187,6 +199,26 @@ fn patterns_of(query: &Query) -> &[Pattern]
     ensures { result.now ≡ query.now.patterns }
 {
     query.patterns.as_slice()
+}
+
+// The number of parts that a query asks for.
+fn parts_of(query: &Query) -> u64
+    ensures { result ≡ nat_abs query.now.parts }
+{
+    query.parts.unsigned_abs()
+}
+
+// Rounds by a row, so many times.
+fn power(stage: Stage, row: &Row, number: u64) -> Row
+    requires { length row.now ≡ stage }
+    ensures is { result ≡ power stage row.now number }
+    ensures same_stage { length result ≡ stage }
+{
+    let mut product = Row::rounds(stage);
+    for _part in 0..number {
+        product = product.times(row);
+    }
+    product
 }
 
 // The number of changes of a lead.

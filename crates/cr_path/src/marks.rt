@@ -1,6 +1,6 @@
 //! Marks of telling rows.
 
-ghost use Rattle.std.specs.Prelude.{◌≡◌, ◌+◌, ◌-◌, ◌<◌, ◌≤◌, ◌++◌, ◌∷◌, [], true, false, length, get_or, replicate, All, IfOk};
+ghost use Rattle.std.specs.Prelude.{◌≡◌, ◌+◌, ◌-◌, ◌<◌, ◌≤◌, true, false, length, get_or, replicate, All, IfOk};
 ghost use Rattle.cr_path.specs.Marks.{some_marked, AreSet};
 
 use cr_row::NoMemory;
@@ -49,57 +49,43 @@ impl Marks {
     }
 
     /// Whether one of a lead's numbers is marked.
-    pub fn has_some(&self, near: [u32; 3], further: &[u32]) -> bool
-        requires { All (λ number. number < length self.now.marks) (near ++ further.now) }
-        ensures { result ≡ some_marked self.now.marks (near ++ further.now) }
+    pub fn has_some(&self, numbers: &[u32]) -> bool
+        requires { All (λ number. number < length self.now.marks) numbers.now }
+        ensures { result ≡ some_marked self.now.marks numbers.now }
     {
-        let marked = near_marked(&self.marks, near);
-        if further.is_empty() {
-            return marked;
-        }
-        marked | some_marked(&self.marks, further)
+        some_marked(&self.marks, numbers)
     }
 
     /// Marks the telling rows of one lead more, if its rows are new.
-    pub fn add(&mut self, near: [u32; 3], further: &[u32], is_new: bool)
-        requires within { All (λ number. number < length self.old.marks) (near ++ further.now) }
+    pub fn add(&mut self, numbers: &[u32], is_new: bool)
+        requires within { All (λ number. number < length self.old.marks) numbers.now }
         requires few { self.old.fresh ≤ 1024 }
         ensures long { length self.new.marks ≡ length self.old.marks }
-        ensures added { is_new ≡ true → AreSet true (near ++ further.now) self.old.marks self.new.marks × (self.new.fresh ≡ self.old.fresh + 1) }
+        ensures added { is_new ≡ true → AreSet true numbers.now self.old.marks self.new.marks × (self.new.fresh ≡ self.old.fresh + 1) }
         ensures same { is_new ≡ false → self.new ≡ self.old }
     {
         if is_new {
-            set_lead(&mut self.marks, near, further, true);
+            set_all(&mut self.marks, numbers, true);
             self.fresh += 1;
         }
     }
 
     /// Takes the marks of the last of so many leads away, if those of all of them are marked.
-    pub fn take_back(&mut self, leads: usize, near: [u32; 3], further: &[u32])
-        requires within { All (λ number. number < length self.old.marks) (near ++ further.now) }
+    pub fn take_back(&mut self, leads: usize, numbers: &[u32])
+        requires within { All (λ number. number < length self.old.marks) numbers.now }
         requires some { 0 < leads }
         ensures long { length self.new.marks ≡ length self.old.marks }
-        ensures taken { self.old.fresh ≡ leads → AreSet false (near ++ further.now) self.old.marks self.new.marks × (self.new.fresh ≡ leads - 1) }
+        ensures taken { self.old.fresh ≡ leads → AreSet false numbers.now self.old.marks self.new.marks × (self.new.fresh ≡ leads - 1) }
         ensures same { (self.old.fresh ≡ leads → ⊥) → self.new ≡ self.old }
     {
         if self.fresh == leads {
-            set_lead(&mut self.marks, near, further, false);
+            set_all(&mut self.marks, numbers, false);
             self.fresh = leads - 1;
         }
     }
 }
 
-// Whether one of three numbers is marked. All of them are looked at, which takes less time than to leave early.
-fn near_marked(marks: &[bool], near: [u32; 3]) -> bool
-    requires { All (λ number. number < length marks.now) near }
-    ensures { result ≡ some_marked marks.now near }
-{
-    let [first, second, third] = near;
-    marks[first as usize] | marks[second as usize] | marks[third as usize]
-}
-
-// Whether one of the numbers is marked. It stays a call, so that what asks of a lead with three numbers is short.
-#[inline(never)]
+// Whether one of the numbers is marked. All of them are looked at, which takes less time than to leave early.
 fn some_marked(marks: &[bool], numbers: &[u32]) -> bool
     requires { All (λ number. number < length marks.now) numbers.now }
     ensures { result ≡ some_marked marks.now numbers.now }
@@ -112,31 +98,6 @@ fn some_marked(marks: &[bool], numbers: &[u32]) -> bool
 }
 
 // Sets the marks of a lead's numbers.
-fn set_lead(marks: &mut [bool], near: [u32; 3], further: &[u32], mark: bool)
-    requires { All (λ number. number < length marks.old) (near ++ further.now) }
-    ensures { AreSet mark (near ++ further.now) marks.old marks.new }
-{
-    set_near(marks, near, mark);
-    set_all(marks, further, mark);
-}
-
-fn set_near(marks: &mut [bool], near: [u32; 3], mark: bool)
-    requires { All (λ number. number < length marks.old) near }
-    ensures { AreSet mark near marks.old marks.new }
-{
-    let [first, second, third] = near;
-    set_one(marks, first, mark);
-    set_one(marks, second, mark);
-    set_one(marks, third, mark);
-}
-
-fn set_one(marks: &mut [bool], number: u32, mark: bool)
-    requires { number < length marks.old }
-    ensures { AreSet mark (number ∷ []) marks.old marks.new }
-{
-    marks[number as usize] = mark;
-}
-
 fn set_all(marks: &mut [bool], numbers: &[u32], mark: bool)
     requires { All (λ number. number < length marks.old) numbers.now }
     ensures { AreSet mark numbers.now marks.old marks.new }

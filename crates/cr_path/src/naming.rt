@@ -1,26 +1,31 @@
-//! Leads by the numbers of their telling rows.
+//! The numbers of the telling rows of leads, as many for each.
 
-ghost use Rattle.std.specs.Prelude.{◌≡◌, ◌<◌, ◌++◌, ◌∷◌, [], cond, nat_eq, length, get_or, drop, map, All, IfOk};
-ghost use Rattle.std.specs.List.{list_any};
+ghost use Rattle.std.specs.Prelude.{◌≡◌, ◌-◌, ◌<◌, ◌≤◌, ◌++◌, length, get_or, All, IfOk};
 ghost use Rattle.cr_path.specs.Rung.{IsHeld};
-ghost use Rattle.cr_path.specs.Telling.{name_of, HasName, AreSame, AreNear, IsLike, AreAllNamed};
+ghost use Rattle.cr_path.specs.Telling.{name_of, HasName, padded, all_padded, AreNamed};
 
-use crate::growing::narrow;
+use crate::listing::Listing;
 use crate::numbering::{Numbering, RungLead};
 use crate::stopped::Stopped;
-use crate::table::LeadRecord;
 use crate::telling::Telling;
 use std::alloc::Global;
 
-/// The records of leads, and the numbers of their telling rows.
+// How many numbers a lead may have: what goes by them is compiled for each of these.
+const WIDTHS: [usize; 11] = [2, 3, 4, 6, 8, 12, 16, 24, 32, 64, 128];
+
+// The most numbers of all leads.
+const MOST_NUMBERS: usize = 1 << 24;
+
+/// So many numbers of telling rows for each lead, those of the first lead first.
 #[derive(Drop)]
 pub struct Named {
-    pub records: Vec<LeadRecord>,
+    pub width: usize,
     pub numbers: Vec<u32>,
 }
 
 impl Named {
-    /// Those of leads that were rung, by a cover of their rows and the telling ones.
+    /// Those of leads that were rung, by a cover of their rows and the telling ones. Each lead has as many as the
+    /// width, which is the least that the one with most has room in, with its first one again where it has fewer. TooMany where they are more than 16,777,216.
     pub fn of(
         alloc: Global,
         made: &Numbering,
@@ -29,94 +34,85 @@ impl Named {
     ) -> Result<Named, Stopped>
         requires held { All (IsHeld (length made.now.numbers.items)) made.now.records.items }
         requires named { All (HasName cover.now telling.now.places.items (length telling.now.rows.items)) made.now.numbers.items }
-        ensures { IfOk result (λ named. AreAllNamed made.now.numbers.items (name_of cover.now telling.now.places.items) (length telling.now.rows.items)
-            made.now.records.items named.records.items named.numbers.items (length made.now.records.items)) }
+        ensures { IfOk result (λ named. AreNamed made.now.numbers.items (name_of cover.now telling.now.places.items) (length telling.now.rows.items)
+            named.width made.now.records.items named.numbers.items) }
     {
-        let mut records = Vec::with_capacity(alloc, made.records.len())?;
-        let mut numbers = Vec::new(alloc);
-        for lead in &made.records {
-            let names = names_of(alloc, cover, telling, lead.numbers_in(&made.numbers))?;
-            records.push(named_lead(lead, &names, &mut numbers)?)?;
+        let listing = Listing::of(alloc, made, cover, telling)?;
+        let width = width_for_all(&listing.leads);
+        let numbers = padded_names(alloc, &listing.leads, &listing.names, width)?;
+        Ok(Named { width, numbers })
+    }
+}
+
+// The least width that has room for the names of each lead.
+fn width_for_all(leads: &[RungLead]) -> usize
+    ensures { All (λ lead. lead.end - lead.start ≤ result) leads.now }
+{
+    width_for(most_names(leads))
+}
+
+// The least width for so many names.
+fn width_for(names: usize) -> usize
+    ensures { names ≤ result }
+{
+    for width in WIDTHS {
+        if names <= width {
+            return width;
         }
-        Ok(Named { records, numbers })
     }
+    names
 }
 
-// The record of a lead that was rung and has these names. Its further ones are listed after others.
-fn named_lead(rung: &RungLead, names: &[u32], numbers: &mut Vec<u32>) -> Result<LeadRecord, Stopped>
-    requires { 0 < length names.now }
-    ensures like { IfOk result (λ lead. IsLike rung.now lead) }
-    ensures start { IfOk result (λ lead. lead.start ≡ length numbers.old.items) }
-    ensures count { IfOk result (λ lead. lead.count ≡ length (drop 3 names.now)) }
-    ensures near { IfOk result (λ lead. AreNear names.now lead.near) }
-    ensures further { IfOk result (λ _. numbers.new.items ≡ numbers.old.items ++ drop 3 names.now) }
+// How many names the lead has that has most.
+fn most_names(leads: &[RungLead]) -> usize
+    ensures { All (λ lead. lead.end - lead.start ≤ result) leads.now }
 {
-    let start = numbers.len();
-    let further = &names[names.len().min(3)..];
-    numbers.extend_from_slice(further)?;
-    Ok(LeadRecord {
-        next: rung.next,
-        near: near_of(names),
-        start: narrow(start)?,
-        limit: rung.limit,
-        count: narrow_count(further.len())?,
-        length: rung.length,
-        twice: rung.twice,
-    })
-}
-
-// The first three of some names, and the first one again where there are fewer.
-fn near_of(names: &[u32]) -> [u32; 3]
-    requires { 0 < length names.now }
-    ensures { AreNear names.now result }
-{
-    [names[0], name_or_first(names, 1), name_or_first(names, 2)]
-}
-
-// The name at a place, or the first one where there is none.
-fn name_or_first(names: &[u32], place: usize) -> u32
-    requires { 0 < length names.now }
-    ensures { result ≡ get_or names.now place (get_or names.now 0 0) }
-{
-    match names.get(place) {
-        Some(name) => *name,
-        None => names[0],
+    let mut most = 0;
+    for lead in leads {
+        most = most.max(lead.end.saturating_sub(lead.start) as usize);
     }
+    most
 }
 
-// A number of rows in a lead as one of 8 bits.
-fn narrow_count(count: usize) -> Result<u8, Stopped>
-    ensures { IfOk result (λ number. number ≡ count) }
-{
-    match u8::try_from(count) {
-        Ok(number) => Ok(number),
-        Err(_) => Err(Stopped::TooMany),
-    }
-}
-
-// The names of a lead's rows, each once.
-fn names_of(
+// The names of all leads, so many for each.
+fn padded_names(
     alloc: Global,
-    cover: &[u32],
-    telling: &Telling,
-    lead: &[u32],
+    leads: &[RungLead],
+    names: &[u32],
+    width: usize,
 ) -> Result<Vec<u32>, Stopped>
-    requires { All (HasName cover.now telling.now.places.items (length telling.now.rows.items)) lead.now }
-    ensures { IfOk result (λ names. AreSame (map (name_of cover.now telling.now.places.items) lead.now) names.items) }
+    requires held { All (IsHeld (length names.now)) leads.now }
+    requires few { All (λ lead. lead.end - lead.start ≤ width) leads.now }
+    ensures { IfOk result (λ numbers. numbers.items ≡ all_padded width names.now leads.now) }
 {
-    let mut names = Vec::new(alloc);
-    for row in lead {
-        add_once(&mut names, telling.places[cover[*row as usize] as usize])?;
+    let room = leads.len().saturating_mul(width);
+    if room > MOST_NUMBERS {
+        return Err(Stopped::TooMany);
     }
-    Ok(names)
+    let mut numbers = Vec::with_capacity(alloc, room)?;
+    for lead in leads {
+        add_padded(&mut numbers, lead.numbers_in(names), width)?;
+    }
+    Ok(numbers)
 }
 
-// Adds a name that is not there.
-fn add_once(names: &mut Vec<u32>, name: u32) -> Result<(), Stopped>
-    ensures { IfOk result (λ _. names.new.items ≡ names.old.items ++ cond (list_any (nat_eq name) names.old.items) [] (name ∷ [])) }
+// Adds some names, and the first one again until they are so many.
+fn add_padded(numbers: &mut Vec<u32>, names: &[u32], width: usize) -> Result<(), Stopped>
+    requires some { 0 < length names.now }
+    requires few { length names.now ≤ width }
+    ensures { IfOk result (λ _. numbers.new.items ≡ numbers.old.items ++ padded width names.now) }
 {
-    if !names.contains(&name) {
-        names.push(name)?;
+    numbers.extend_from_slice(names)?;
+    for _more in names.len()..width {
+        numbers.push(first_of(names))?;
     }
     Ok(())
+}
+
+// The first of some names.
+fn first_of(names: &[u32]) -> u32
+    requires { 0 < length names.now }
+    ensures { result ≡ get_or names.now 0 0 }
+{
+    names[0]
 }

@@ -33,8 +33,6 @@ pub struct RungLead {
     pub limit: u16,
     /// Its number of changes.
     pub length: u8,
-    /// Whether it has a row twice in itself.
-    pub twice: bool,
 }
 
 impl RungLead {
@@ -165,7 +163,6 @@ fn number_lead(
         end: narrow(made.numbers.len())?,
         limit: leads.limit(step, &after, home),
         length: leads.length_of(step),
-        twice: leads.has_row_twice(step),
     })?;
     Ok(())
 }

@@ -1,6 +1,6 @@
 //! Whether further parts of a touch bring a row of its node again, by numbers.
 
-ghost use Rattle.std.specs.Prelude.{◌≡◌, ◌+◌, ◌*◌, ◌<◌, ◌≤◌, not, List, ℕ, [], length, get_or, IfSome};
+ghost use Rattle.std.specs.Prelude.{◌≡◌, ◌+◌, ◌*◌, ◌<◌, ◌≤◌, not, List, ℕ, length, IfSome};
 ghost use Rattle.std.specs.List.{list_any};
 ghost use Rattle.cr_model.specs.Callings.{changes_of_all, rows_from, HasSteps};
 ghost use Rattle.cr_model.specs.Dead.{parts_of};
@@ -8,7 +8,7 @@ ghost use Rattle.cr_model.specs.Levels.{is_listed};
 ghost use Rattle.cr_model.specs.Queries.{repeated};
 ghost use Rattle.cr_path.specs.Marks.{AreOf};
 ghost use Rattle.cr_path.specs.Numbers.{IsNumbered, IsTold};
-ghost use Rattle.cr_path.specs.Parts.{IsHead, Passes};
+ghost use Rattle.cr_path.specs.Parts.{IsHead, HasHead, Passes};
 
 use crate::marks::Marks;
 use crate::table::NumberTable;
@@ -23,35 +23,36 @@ pub fn parts_to_try(problem: &Problem) -> usize
     problem.query().parts.unsigned_abs() as usize / 2
 }
 
-/// Whether so many parts, from the head with this number on, bring no row that is marked. It stops at the first lead
-/// that does.
-pub fn bring_new_rows(
+/// Whether so many parts, from the head whose records start here, bring no row that is marked. It stops at the first
+/// lead that does.
+pub fn bring_new_rows<const WIDTH: usize>(
     problem: &Problem,
     numbers: &NumberTable,
     marks: &Marks,
     node: &[u8],
-    head: u32,
+    base: u32,
     parts: usize,
 ) -> bool
     requires numbered { IsNumbered problem.now numbers.now }
+    requires width { numbers.now.width ≡ WIDTH }
     requires steps { HasSteps problem.now node.now }
     requires counted { length marks.now.marks ≡ length numbers.now.rows }
-    requires head { IsHead problem.now numbers.now head }
-    ensures { (rows : List (List ℕ)) → IsTold problem.now numbers.now rows → AreOf numbers.now rows marks.now.marks
-        → result ≡ not (list_any (is_listed rows) (rows_from (get_or numbers.now.heads head []) (changes_of_all problem.now (repeated parts node.now)))) }
+    requires head { HasHead problem.now numbers.now base }
+    ensures { (from : List ℕ) (rows : List (List ℕ)) → IsHead problem.now numbers.now from base → IsTold problem.now numbers.now rows → AreOf numbers.now rows marks.now.marks
+        → result ≡ not (list_any (is_listed rows) (rows_from from (changes_of_all problem.now (repeated parts node.now)))) }
 {
-    let mut head = head;
+    let mut base = base;
     for _part in 0..parts {
-        match pass_part(problem, numbers, marks, node, head) {
-            Some(last) => head = last,
+        match pass_part::<WIDTH>(problem, numbers, marks, node, base) {
+            Some(last) => base = last,
             None => return false,
         }
     }
     true
 }
 
-// The head after one more part that is rung from a head. None where a row of it is marked.
-fn pass_part(
+// Where the records of the head after one more part start, which is rung from a head. None where a row of it is marked.
+fn pass_part<const WIDTH: usize>(
     problem: &Problem,
     numbers: &NumberTable,
     marks: &Marks,
@@ -59,20 +60,21 @@ fn pass_part(
     from: u32,
 ) -> Option<u32>
     requires numbered { IsNumbered problem.now numbers.now }
+    requires width { numbers.now.width ≡ WIDTH }
     requires steps { HasSteps problem.now node.now }
     requires counted { length marks.now.marks ≡ length numbers.now.rows }
-    requires from { IsHead problem.now numbers.now from }
-    ensures head { IfSome result (λ head. IsHead problem.now numbers.now head) }
-    ensures passes { (rows : List (List ℕ)) → IsTold problem.now numbers.now rows → AreOf numbers.now rows marks.now.marks
-        → Passes problem.now numbers.now rows from (changes_of_all problem.now node.now) result }
+    requires from { HasHead problem.now numbers.now from }
+    ensures head { IfSome result (λ base. HasHead problem.now numbers.now base) }
+    ensures passes { (row : List ℕ) (rows : List (List ℕ)) → IsHead problem.now numbers.now row from → IsTold problem.now numbers.now rows → AreOf numbers.now rows marks.now.marks
+        → Passes problem.now numbers.now rows row (changes_of_all problem.now node.now) result }
 {
-    let mut head = from;
+    let mut base = from;
     for step in node {
-        let lead = numbers.lead(head, *step);
-        if marks.has_some(lead.near, numbers.further_of(lead)) {
+        let place = numbers.place(base, *step);
+        if marks.has_some(numbers.numbers_at::<WIDTH>(place)) {
             return None;
         }
-        head = lead.next;
+        base = numbers.lead_at(place).next;
     }
-    Some(head)
+    Some(base)
 }

@@ -1,6 +1,6 @@
 //! The path of a walk: what is kept of a node of a problem whose lead heads and rows are numbered.
 
-ghost use Rattle.std.specs.Prelude.{◌≡◌, ◌-◌, ◌<◌, ◌≤◌, ◌↔◌, ℕ, true, false, not, [], ◌∷◌, length, find, take, is_none, MatchBool, IsTrue, IfOk, IfNone, IfSome};
+ghost use Rattle.std.specs.Prelude.{◌≡◌, ◌+◌, ◌-◌, ◌<◌, ◌≤◌, ◌↔◌, ℕ, true, false, not, [], ◌∷◌, length, find, take, is_none, All, MatchBool, IsTrue, IfOk, IfNone, IfSome};
 ghost use Rattle.std.specs.List.{range_with_len};
 ghost use Rattle.cr_row.specs.Rows.{rounds};
 ghost use Rattle.cr_model.specs.Callings.{rows_of, length_of, head_of, HasSteps};
@@ -16,7 +16,7 @@ ghost use Rattle.cr_query.specs.Meters.{is_hopeless_by_leads};
 ghost use Rattle.cr_path.specs.Ends.{IsEnd};
 ghost use Rattle.cr_path.specs.Living.{is_clean, is_cut, is_hopeless, is_live, IsFirstUncut};
 ghost use Rattle.cr_path.specs.Marks.{IsLead};
-ghost use Rattle.cr_path.specs.Numbers.{IsNumbered, IsRecord};
+ghost use Rattle.cr_path.specs.Numbers.{numbers_of, IsNumbered};
 ghost use Rattle.cr_path.specs.Sets.{is_known, AreUncut};
 ghost use Rattle.cr_path.specs.Walks.{path_from, parent, room_of};
 
@@ -39,7 +39,7 @@ use std::marker::Model;
 ///
 /// It is seen as the problem, the numbers and the node.
 #[derive(Drop)]
-pub struct Path<'a> {
+pub struct Path<'a, const WIDTH: usize> {
     problem: &'a Problem,
     leads: &'a LeadTable,
     numbers: &'a NumberTable,
@@ -53,26 +53,28 @@ pub struct Path<'a> {
     turn_free: bool,
 }
 
-impl<'a> Model for Path<'a> {
+impl<'a, const WIDTH: usize> Model for Path<'a, WIDTH> {
+    ghost use Rattle.std.specs.Prelude.{◌≡◌};
     ghost use Rattle.cr_path.specs.Walks.{PathParts, path_from, IsWalk};
 
     ghost Value = { PathParts };
 
     ghost view = { λ w. path_from w.problem.now w.numbers.now w.steps };
 
-    ghost invariant = { λ w. IsWalk w.problem.now w.leads.now w.numbers.now w.steps w.ends w.marks.marks w.marks.fresh w.counting w.turn_free };
+    ghost invariant = { λ w. IsWalk w.problem.now w.leads.now w.numbers.now w.steps w.ends w.marks.marks w.marks.fresh w.counting w.turn_free × (w.numbers.now.width ≡ WIDTH) };
 }
 
-impl<'a> Path<'a> {
+impl<'a, const WIDTH: usize> Path<'a, WIDTH> {
     /// The path at the node of no steps. All memory is taken here. Err where no memory is left.
     pub fn new(
         alloc: Global,
         problem: &'a Problem,
         leads: &'a LeadTable,
         numbers: &'a NumberTable,
-    ) -> Result<Path<'a>, NoMemory>
+    ) -> Result<Path<'a, WIDTH>, NoMemory>
         requires leads { leads.now ≡ lead_table problem.now }
         requires numbers { IsNumbered problem.now numbers.now }
+        requires width { numbers.now.width ≡ WIDTH }
         ensures { IfOk result (λ path. path ≡ path_from problem.now numbers.now []) }
     {
         let steps = Period::new(alloc)?;
@@ -156,7 +158,7 @@ impl<'a> Path<'a> {
         ensures is { result ≡ head_of self.now.problem self.now.node }
         ensures same_stage { length result ≡ self.now.problem.stage }
     {
-        self.numbers.head_at(self.ends.last().head)
+        self.numbers.head_at(self.ends.last().base)
     }
 
     /// The number of rows of the node.
@@ -166,6 +168,13 @@ impl<'a> Path<'a> {
         ensures few { result ≤ 12128 }
     {
         u64::from(self.ends.last().rung)
+    }
+
+    /// Whether the node's touch, which is so many times the node as the query has parts, ends in rounds.
+    pub fn comes_home(&self) -> bool
+        ensures { IsTrue result ↔ (head_of self.now.problem (touch_of self.now.problem self.now.node) ≡ rounds self.now.problem.stage) }
+    {
+        self.ends.last().home
     }
 
     /// Whether a row of the node stands twice.
@@ -182,14 +191,14 @@ impl<'a> Path<'a> {
         requires home { head_of self.now.problem (touch_of self.now.problem self.now.node) ≡ rounds self.now.problem.stage }
         ensures { result ≡ rows_differ (rows_of self.now.problem (touch_of self.now.problem self.now.node)) }
     {
-        let head = self.ends.last().head;
+        let base = self.ends.last().base;
         let parts = parts_to_try(self.problem);
-        bring_new_rows(
+        bring_new_rows::<WIDTH>(
             self.problem,
             self.numbers,
             &self.marks,
             self.steps.steps(),
-            head,
+            base,
             parts,
         )
     }
@@ -259,8 +268,7 @@ impl<'a> Path<'a> {
         let first = self.first_straight();
         let mut uncut = no_steps();
         for step in first..self.step_count() {
-            let lead = self.lead_after(end, step);
-            uncut = with_step(uncut, step, !self.is_cut(end, step, lead));
+            uncut = with_step(uncut, step, !self.is_cut(end, step));
         }
         uncut
     }
@@ -304,26 +312,36 @@ impl<'a> Path<'a> {
     fn lead_after(&self, end: LeadEnd, step: u8) -> LeadRecord
         requires end { IsEnd self.now.problem self.now.numbers self.now.node end }
         requires step { step < length self.now.problem.leads }
-        ensures { IsLead self.now.problem self.now.numbers self.now.node step result }
+        ensures { IsLead self.now.problem self.now.numbers self.now.node step (end.base + step) result }
     {
-        self.numbers.lead(end.head, step)
+        self.numbers.lead_at(self.numbers.place(end.base, step))
+    }
+
+    // The numbers of its telling rows.
+    fn numbers_after(&self, end: LeadEnd, step: u8) -> &[u32]
+        requires end { IsEnd self.now.problem self.now.numbers self.now.node end }
+        requires step { step < length self.now.problem.leads }
+        ensures are { result.now ≡ numbers_of self.now.numbers (end.base + step) }
+        ensures within { All (λ number. number < length self.now.numbers.rows) result.now }
+    {
+        self.numbers
+            .numbers_at::<WIDTH>(self.numbers.place(end.base, step))
     }
 
     // Whether the child of a clean node by a step, which does not turn back, is dead, but for rows that fit patterns.
-    fn is_cut(&self, end: LeadEnd, step: u8, lead: LeadRecord) -> bool
+    fn is_cut(&self, end: LeadEnd, step: u8) -> bool
         requires clean { is_clean self.now.problem self.now.node ≡ true }
         requires end { IsEnd self.now.problem self.now.numbers self.now.node end }
         requires step { step < length self.now.problem.leads }
-        requires lead { IsLead self.now.problem self.now.numbers self.now.node step lead }
         requires straight { is_turned_back self.now.problem (child self.now.node step) ≡ false }
         ensures { result ≡ is_cut self.now.problem most_rows (child self.now.node step) }
     {
-        // Nothing is left out, which takes less time than to leave early.
+        // All of it is asked, which takes less time than to leave early.
+        let lead = self.lead_after(end, step);
         let is_late = end.rung >= u32::from(lead.limit);
-        let is_again = self
-            .marks
-            .has_some(lead.near, self.numbers.further_of(lead));
-        is_late | is_again || self.counting.is_hopeless_with(step)
+        let is_again = self.marks.has_some(self.numbers_after(end, step));
+        let is_hopeless = self.counting.is_hopeless_with(step);
+        is_late | is_again | is_hopeless
     }
 
     // Whether the child by a step turns back, if the query is the same for all rotations.
@@ -343,8 +361,7 @@ impl<'a> Path<'a> {
         what_is_hopeless_by_leads_is_hopeless();
         // A problem keeps all of its checks.
         let _ = self.problem.stage();
-        let lead = self.lead_after(self.last_end(), step);
-        self.go(step, lead, true);
+        self.go(step, true);
         if self.is_hopeless() {
             self.back();
             return false;
@@ -366,44 +383,42 @@ impl<'a> Path<'a> {
         requires valid { IsValid self.old.problem (child self.old.node step) }
         ensures { self.new ≡ path_from self.old.problem self.old.numbers (child self.old.node step) }
     {
-        let lead = self.lead_after(self.last_end(), step);
-        let is_new = self.brings_new_rows(step, lead);
-        self.go(step, lead, is_new);
+        let is_new = self.brings_new_rows(step);
+        self.go(step, is_new);
     }
 
     // Whether the rows of the child by a step differ.
-    fn brings_new_rows(&self, step: u8, lead: LeadRecord) -> bool
-        requires { IsLead self.now.problem self.now.numbers self.now.node step lead }
+    fn brings_new_rows(&self, step: u8) -> bool
+        requires { step < length self.now.problem.leads }
         ensures { result ≡ rows_differ (rows_of self.now.problem (child self.now.node step)) }
     {
         if self.has_repeat() {
             return false;
         }
-        !lead.twice
-            && !self
-                .marks
-                .has_some(lead.near, self.numbers.further_of(lead))
+        let end = self.last_end();
+        !self.numbers.has_row_twice(step) && !self.marks.has_some(self.numbers_after(end, step))
     }
 
     // Goes to the child by a step, of whose rows it is known whether they differ.
-    fn go(&mut self, step: u8, lead: LeadRecord, is_new: bool)
+    fn go(&mut self, step: u8, is_new: bool)
         requires few { length self.old.node < 1024 }
         requires valid { IsValid self.old.problem (child self.old.node step) }
-        requires lead { IsRecord self.old.problem self.old.numbers (head_of self.old.problem self.old.node) step lead }
         requires new { is_new ≡ rows_differ (rows_of self.old.problem (child self.old.node step)) }
         ensures { self.new ≡ path_from self.old.problem self.old.numbers (child self.old.node step) }
     {
         let end = self.ends.last();
+        let place = self.numbers.place(end.base, step);
+        let lead = self.numbers.lead_at(place);
         self.marks
-            .add(lead.near, self.numbers.further_of(lead), is_new);
-        self.counting
-            .add_lead(self.leads, self.numbers, end.head, step);
+            .add(self.numbers.numbers_at::<WIDTH>(place), is_new);
         self.ends.push(LeadEnd {
-            head: lead.next,
+            base: lead.next,
             rung: end.rung + u32::from(lead.length),
             uncut: 0,
+            home: lead.home,
         });
         self.steps.push(step);
+        self.counting.add_lead(self.numbers, place, step);
     }
 
     // Goes back to the node without the last step.
@@ -414,13 +429,12 @@ impl<'a> Path<'a> {
         let number = self.steps.steps().len();
         let step = self.steps.steps()[number - 1];
         self.ends.pop();
-        let end = self.ends.last();
-        let lead = self.numbers.lead(end.head, step);
+        let base = self.ends.last().base;
+        let place = self.numbers.place(base, step);
         self.marks
-            .take_back(number, lead.near, self.numbers.further_of(lead));
-        self.counting
-            .take_back(self.leads, self.numbers, end.head, step);
+            .take_back(number, self.numbers.numbers_at::<WIDTH>(place));
         self.steps.pop();
+        self.counting.take_back(self.numbers, place, step);
     }
 
     // Goes back to so many steps.

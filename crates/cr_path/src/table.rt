@@ -1,18 +1,21 @@
 //! The lead heads and the telling rows of a problem by numbers, and of each head and step a record of the lead.
 
-ghost use Rattle.std.specs.Prelude.{◌≡◌, ◌+◌, ◌*◌, ◌<◌, ◌≤◌, ◌↔◌, IsTrue, [], length, get_or, take, drop, IfOk, IfSome};
+ghost use Rattle.std.specs.Prelude.{◌≡◌, ◌+◌, ◌<◌, ◌≤◌, ◌↔◌, ℕ, List, IsTrue, false, [], length, get_or, map, IfOk, IfSome};
 ghost use Rattle.cr_leads.specs.Tables.{lead_table};
+ghost use Rattle.cr_model.specs.Limits.{most_patterns};
 ghost use Rattle.cr_model.specs.Sizes.{most_rows};
 ghost use Rattle.cr_reach.specs.Tables.{reach_table};
 ghost use Rattle.cr_model.specs.Callings.{HasSteps};
 ghost use Rattle.cr_path.specs.Best.{IsBest};
-ghost use Rattle.cr_path.specs.Numbers.{IsNumbered};
+ghost use Rattle.cr_path.specs.Numbers.{numbers_of, IsBase, StartsHead, IsNumbered};
 
 use crate::covers::cover_of;
+use crate::fits::Fits;
 use crate::fittings::{Fitting, fittings_of};
 use crate::leads::Leads;
 use crate::naming::Named;
 use crate::numbering::Numbering;
+use crate::records::{homes_of, records_of, twice_of};
 use crate::stopped::Stopped;
 use crate::telling::Telling;
 use crate::turning::is_best;
@@ -27,28 +30,22 @@ use std::marker::Model;
 /// What is known of the lead of a step that is rung from a head.
 #[derive(Debug, Drop, Clone, Copy, PartialEq, Eq)]
 pub struct LeadRecord {
-    /// The number of the head after it.
+    /// Where the records of the head after it start: that head's number times the steps.
     pub next: u32,
-    /// The numbers of its first three telling rows, the first one again where it has fewer.
-    pub near: [u32; 3],
-    /// Where the numbers of its further telling rows start.
-    pub start: u32,
     /// The child may live only where its node has fewer changes than this: the child is then not too long, has no row
     /// twice in its last lead, does not bring rounds too early, and home is not too far from it.
     pub limit: u16,
-    /// How many further telling rows it has.
-    pub count: u8,
     /// Its number of changes.
     pub length: u8,
-    /// Whether it has a row twice in itself.
-    pub twice: bool,
+    /// Whether a touch may end after it: the head after it, as often as the query has parts, leads to rounds.
+    pub home: bool,
 }
 
 /// The lead heads that leads reach from rounds and the telling rows of all leads rung from them, by numbers, with a
 /// record of each head and step. Two leads have a row in common exactly where they have a telling row in common.
 ///
-/// It is seen as the number of steps, the heads, the telling rows, the records, the numbers of the further telling
-/// rows, and of each pattern how many rows of each lead fit it.
+/// It is seen as the number of steps, the heads, the telling rows, the records, how many numbers each lead has and these
+/// numbers of its telling rows, which leads have a row twice, and of each pattern how many rows of each lead fit it.
 #[derive(Drop)]
 pub struct NumberTable {
     steps: u8,
@@ -56,7 +53,12 @@ pub struct NumberTable {
     rows: Vec<Row>,
     // The record of a head and a step stands at head * steps + step.
     records: Vec<LeadRecord>,
+    // As many as the lead with most telling rows has. A lead with fewer has its first one again.
+    width: usize,
+    // Those of the lead at a place start at place * width.
     numbers: Vec<u32>,
+    // By step number, whether the lead has a row twice in itself.
+    twice: Vec<bool>,
     // Of each pattern, in the order of the records.
     fittings: Vec<Fitting>,
 }
@@ -71,7 +73,9 @@ impl Model for NumberTable {
       heads = t.heads.items;
       rows = t.rows.items;
       records = t.records.items;
+      width = t.width;
       numbers = t.numbers.items;
+      twice = t.twice.items;
       fittings = t.fittings.items;
     } };
 
@@ -80,14 +84,17 @@ impl Model for NumberTable {
       heads = t.heads.items;
       rows = t.rows.items;
       records = t.records.items;
+      width = t.width;
       numbers = t.numbers.items;
+      twice = t.twice.items;
       fittings = t.fittings.items;
     }) };
 }
 
 impl NumberTable {
     /// The numbers of a problem. None where there are too many of them: more heads that leads reach than the most, or
-    /// than 2,097,152 over the changes of the shortest lead, or more than 1,048,576 rows, or so many patterns that their
+    /// than 2,097,152 over the changes of the shortest lead, or more than 1,048,576 rows, or more than 16,777,216
+    /// numbers where each lead has as many as the one with most telling rows (64 MiB), or so many patterns that their
     /// numbers would take more than 16 MiB. Err where no memory is left.
     pub fn new(
         alloc: Global,
@@ -115,31 +122,67 @@ impl NumberTable {
         self.rows.len()
     }
 
-    /// The head with this number.
-    pub(crate) fn head_at(&self, head: u32) -> Row
-        requires { head < length self.now.heads }
-        ensures { result ≡ get_or self.now.heads head [] }
+    /// The head whose records start here.
+    pub(crate) fn head_at(&self, base: u32) -> Row
+        requires { StartsHead self.now base }
+        ensures { (row : List ℕ) → IsBase self.now row base → result ≡ row }
     {
-        self.heads[head as usize]
+        self.head(base as usize / usize::from(self.steps))
     }
 
-    /// The record of the lead of a step from a head.
-    #[tactic(auto, using(crate::proofs::Places::record_within))]
-    pub(crate) fn lead(&self, head: u32, step: u8) -> LeadRecord
-        requires head { head < length self.now.heads }
-        requires step { step < self.now.steps }
-        ensures { result ≡ get_or self.now.records (head * self.now.steps + step) result }
+    // The head with this number.
+    fn head(&self, number: usize) -> Row
+        requires { number < length self.now.heads }
+        ensures { result ≡ get_or self.now.heads number [] }
     {
-        self.records[head as usize * usize::from(self.steps) + usize::from(step)]
+        self.heads[number]
     }
 
-    /// Where the record of a step from a head stands.
-    pub(crate) fn place(&self, head: u32, step: u8) -> usize
-        requires head { head < length self.now.heads }
+    /// The place of the lead of a step from the head whose records start here.
+    pub(crate) fn place(&self, base: u32, step: u8) -> usize
+        requires base { StartsHead self.now base }
         requires step { step < self.now.steps }
-        ensures { result ≡ head * self.now.steps + step }
+        ensures is { result ≡ base + step }
+        ensures within { result < length self.now.records }
     {
-        head as usize * usize::from(self.steps) + usize::from(step)
+        // A table keeps that each head has its records.
+        let _ = self.records.len();
+        base as usize + usize::from(step)
+    }
+
+    /// The record of the lead at a place.
+    pub(crate) fn lead_at(&self, place: usize) -> LeadRecord
+        requires { place < length self.now.records }
+        ensures { result ≡ get_or self.now.records place result }
+    {
+        self.records[place]
+    }
+
+    /// The numbers of the telling rows of the lead at a place, as many for each lead.
+    pub(crate) fn numbers_at<const WIDTH: usize>(&self, place: usize) -> &[u32]
+        requires place { place < length self.now.records }
+        requires width { self.now.width ≡ WIDTH }
+        ensures { result.now ≡ numbers_of self.now place }
+    {
+        // That they are so many is known when this is compiled, so that a loop over them is none.
+        let numbers = self.numbers.as_slice();
+        let start = place * WIDTH;
+        &numbers[start..start + WIDTH]
+    }
+
+    /// How many numbers each lead has: 2, 3, 4, 6, 8, 12, 16, 24, 32, 64 or 128.
+    pub fn width(&self) -> usize
+        ensures { result ≡ self.now.width }
+    {
+        self.width
+    }
+
+    /// Whether the lead of a step has a row twice in itself.
+    pub(crate) fn has_row_twice(&self, step: u8) -> bool
+        requires { step < length self.now.twice }
+        ensures { result ≡ get_or self.now.twice step false }
+    {
+        self.twice[usize::from(step)]
     }
 
     /// How many rows of the leads fit the pattern at an index.
@@ -148,6 +191,14 @@ impl NumberTable {
         ensures { result.now ≡ get_or self.now.fittings pattern [] }
     {
         &self.fittings[pattern]
+    }
+
+    /// How many rows of the lead at a place fit each pattern.
+    pub(crate) fn fits_at(&self, place: usize) -> Fits
+        requires { length self.now.fittings ≤ most_patterns }
+        ensures { result ≡ map (λ fitting. get_or fitting place 0) self.now.fittings }
+    {
+        Fits::at(&self.fittings, place)
     }
 
     /// Whether a calling of the problem meets each pattern, and no rotation that is less does. Nothing is rung, and no
@@ -160,15 +211,6 @@ impl NumberTable {
     {
         is_best(problem, self, calling)
     }
-
-    /// The numbers of the further telling rows of a lead.
-    pub(crate) fn further_of(&self, lead: LeadRecord) -> &[u32]
-        requires { lead.start + lead.count ≤ length self.now.numbers }
-        ensures { result.now ≡ take lead.count (drop lead.start self.now.numbers) }
-    {
-        let start = lead.start as usize;
-        &self.numbers[start..start + usize::from(lead.count)]
-    }
 }
 
 // The table of leads that are rung from at most so many heads.
@@ -180,13 +222,18 @@ fn table_of(alloc: Global, leads: &Leads, most_heads: u64) -> Result<NumberTable
     let telling = Telling::of(alloc, &made.rows, &cover)?;
     let named = Named::of(alloc, &made, &cover, &telling)?;
     let heads = rows_of(alloc, &made.heads)?;
+    let homes = homes_of(alloc, leads, &heads)?;
+    let records = records_of(alloc, &made.records, leads.count(), &homes)?;
+    let twice = twice_of(alloc, leads)?;
     let fittings = fittings_of(alloc, leads, &heads)?;
     Ok(NumberTable {
         steps: leads.count(),
         heads,
         rows: telling.rows,
-        records: named.records,
+        records,
+        width: named.width,
         numbers: named.numbers,
+        twice,
         fittings,
     })
 }

@@ -9,17 +9,17 @@ ghost use Rattle.cr_model.specs.Queries.{rows_fitting, IsWithin};
 ghost use Rattle.cr_model.specs.Touches.{IsLess};
 ghost use Rattle.cr_query.specs.Meeting.{MeetsByRows};
 ghost use Rattle.cr_path.specs.Best.{IsBest, HasNoneBetter, IsWay};
-ghost use Rattle.cr_path.specs.Numbers.{all_fitting, IsNumbered};
+ghost use Rattle.cr_path.specs.Numbers.{all_fitting, StartsHead, IsNumbered};
 
 use crate::fittings::Fitting;
 use crate::table::NumberTable;
 use cr_model::{Pattern, Problem, Query};
 use std::cmp::Ordering;
 
-/// The head after some leads by its number, and how many of their rows fit a pattern.
+/// Where the records of the head after some leads start, and how many of their rows fit a pattern.
 #[derive(Clone, Copy)]
 pub struct Way {
-    pub head: u32,
+    pub base: u32,
     pub number: u64,
 }
 
@@ -155,7 +155,7 @@ fn count_turned(
     ensures is { result ≡ rows_fitting pattern.now.cells (rows_of problem.now (rotated by calling.now)) }
     ensures few { result ≤ 1000000 }
 {
-    let start = Way { head: 0, number: 0 };
+    let start = Way { base: 0, number: 0 };
     let half = ring_on(problem, numbers, pattern, fitting, start, &calling[by..]);
     let whole = ring_on(problem, numbers, pattern, fitting, half, &calling[..by]);
     whole.number
@@ -174,18 +174,19 @@ fn ring_on(
     requires fitting { fitting.now ≡ all_fitting problem.now numbers.now.heads pattern.now }
     requires steps { HasSteps problem.now steps.now }
     requires few { length steps.now ≤ 1024 }
-    requires head { from.head < length numbers.now.heads }
+    requires base { StartsHead numbers.now from.base }
     requires number { from.number ≤ 300000 }
-    ensures head { result.head < length numbers.now.heads }
+    ensures base { StartsHead numbers.now result.base }
     ensures number { result.number ≤ from.number + 255 * length steps.now }
     ensures way { (word : List ℕ) → IsWay problem.now numbers.now pattern.now.cells word from
         → IsWay problem.now numbers.now pattern.now.cells (word ++ steps.now) result }
 {
     let mut way = from;
     for step in steps {
+        let place = numbers.place(way.base, *step);
         way = Way {
-            head: numbers.lead(way.head, *step).next,
-            number: way.number + fitting.at(numbers.place(way.head, *step)),
+            base: numbers.lead_at(place).next,
+            number: way.number + fitting.at(place),
         };
     }
     way

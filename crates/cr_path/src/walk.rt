@@ -25,14 +25,14 @@ use std::marker::Model;
 
 /// A walk from node to node of a problem whose lead heads and rows are numbered.
 ///
-/// It is seen as the problem and the node. All memory is taken in `new`; nothing is rung, but where the query has
-/// patterns. What it tells of its node takes a time that does not grow with the node, but for `parts_differ`.
+/// It is seen as the problem and the node. All memory is taken in `new`, and nothing is rung. What it tells of
+/// its node takes a time that does not grow with the node, but for `parts_differ`.
 #[derive(Drop)]
-pub struct NumberWalk<'a> {
-    path: Path<'a>,
+pub struct NumberWalk<'a, const WIDTH: usize> {
+    path: Path<'a, WIDTH>,
 }
 
-impl<'a> Model for NumberWalk<'a> {
+impl<'a, const WIDTH: usize> Model for NumberWalk<'a, WIDTH> {
     ghost use Rattle.cr_path.specs.Walks.{WalkParts, walk_from};
 
     ghost Value = { WalkParts };
@@ -40,16 +40,17 @@ impl<'a> Model for NumberWalk<'a> {
     ghost view = { λ w. walk_from w.path.problem w.path.node };
 }
 
-impl<'a> NumberWalk<'a> {
+impl<'a, const WIDTH: usize> NumberWalk<'a, WIDTH> {
     /// The walk at the node of no steps. Err where no memory is left.
     pub fn new(
         alloc: Global,
         problem: &'a Problem,
         leads: &'a LeadTable,
         numbers: &'a NumberTable,
-    ) -> Result<NumberWalk<'a>, NoMemory>
+    ) -> Result<NumberWalk<'a, WIDTH>, NoMemory>
         requires leads { leads.now ≡ lead_table problem.now }
         requires numbers { IsNumbered problem.now numbers.now }
+        requires width { numbers.now.width ≡ WIDTH }
         ensures { IfOk result (λ walk. walk ≡ record { problem = problem.now; node = [] }) }
     {
         let path = Path::new(alloc, problem, leads, numbers)?;
@@ -111,6 +112,13 @@ impl<'a> NumberWalk<'a> {
         ensures few { result ≤ 12128 }
     {
         self.path.length()
+    }
+
+    /// Whether the node's touch, which is so many times the node as the query has parts, ends in rounds.
+    pub fn comes_home(&self) -> bool
+        ensures { IsTrue result ↔ (head_of self.now.problem (touch_of self.now.problem self.now.node) ≡ rounds self.now.problem.stage) }
+    {
+        self.path.comes_home()
     }
 
     /// Whether a row of the node stands twice.

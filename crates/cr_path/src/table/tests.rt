@@ -151,16 +151,24 @@ type Counts = (usize, usize, usize);
 
 fn telling_rows(table: &NumberTable) -> usize {
     let mut all = 0usize;
-    for lead in &table.records {
-        all = all.saturating_add(telling_rows_of(lead));
+    for place in 0..table.records.len() {
+        let start = place.saturating_mul(table.width);
+        if let Some(numbers) = table.numbers.get(start..start.saturating_add(table.width)) {
+            all = all.saturating_add(telling_rows_of(numbers));
+        }
     }
     all
 }
 
-// The first one is told again where there are fewer than three.
-fn telling_rows_of(lead: &LeadRecord) -> usize {
-    let [first, second, third] = lead.near;
-    1 + usize::from(second != first) + usize::from(third != first) + usize::from(lead.count)
+// The first one is told again where there are fewer.
+fn telling_rows_of(numbers: &[u32]) -> usize {
+    let mut rows = 0usize;
+    for index in 0..numbers.len() {
+        if index == 0 || numbers[index] != numbers[0] {
+            rows = rows.saturating_add(1);
+        }
+    }
+    rows
 }
 
 fn counts(alloc: Global, draft: &Draft, most_heads: u64) -> Result<Option<Counts>, Fail> {
@@ -207,32 +215,26 @@ const ROWS: [&[u8]; 3] = [&[1, 2, 3, 4], &[2, 1, 4, 3], &[3, 1, 2, 4]];
 const RECORDS: [LeadRecord; 3] = [
     LeadRecord {
         next: 1,
-        near: [1, 1, 1],
-        start: 0,
         limit: 1,
-        count: 0,
         length: 8,
-        twice: false,
+        home: false,
     },
     LeadRecord {
         next: 2,
-        near: [2, 2, 2],
-        start: 0,
         limit: 9,
-        count: 0,
         length: 8,
-        twice: false,
+        home: false,
     },
     LeadRecord {
         next: 0,
-        near: [0, 0, 0],
-        start: 0,
         limit: 17,
-        count: 0,
         length: 8,
-        twice: false,
+        home: true,
     },
 ];
+
+// The telling row of each lead, twice.
+const NUMBERS: [u32; 6] = [1, 1, 2, 2, 0, 0];
 
 #[test]
 fn leads_of_minimus(rt: HostRuntime) -> Result<(), Fail> {
@@ -240,7 +242,9 @@ fn leads_of_minimus(rt: HostRuntime) -> Result<(), Fail> {
         return Err(Fail::from("there are three heads"));
     };
     assert!(rt; table.records.as_slice() == &RECORDS[..]);
-    assert!(rt; table.numbers.is_empty());
+    assert!(rt; table.width == 2);
+    assert!(rt; table.numbers.as_slice() == &NUMBERS[..]);
+    assert!(rt; table.twice.as_slice() == &[false][..]);
     for place in 0..3 {
         assert!(rt; Row::of(HEADS[place]).as_ref() == table.heads.get(place));
         assert!(rt; Row::of(ROWS[place]).as_ref() == table.rows.get(place));

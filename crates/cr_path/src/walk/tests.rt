@@ -51,45 +51,11 @@ const THREE_PARTS: Draft = Draft {
     ..DOUBLES
 };
 
-const NO_BOBS: Draft = Draft {
-    counts: &[Count {
-        mark: b'b',
-        min: 0,
-        max: 0,
-    }],
-    ..DOUBLES
-};
-
 const ASKED: Draft = Draft {
     min: 60,
     max: 60,
     cells: &[Bell(1), Bell(4), Bell(2), Bell(5), Bell(3)],
     ..DOUBLES
-};
-
-// Plain Bob Minimus with a call that makes all places: p and s.
-const MINIMUS: Draft = Draft {
-    stage: 4,
-    leads: &[
-        (0, b'p', b"x.14.x.14.x.14.x.12"),
-        (0, b's', b"x.14.x.14.x.14.x.1234"),
-    ],
-    max: 24,
-    ..DOUBLES
-};
-
-// Two methods of the same changes, which change at least once.
-const CHANGING: Draft = Draft {
-    letters: b"AC",
-    leads: &[
-        (0, b'p', b"x.14.x.14.x.14.x.12"),
-        (1, b'p', b"x.14.x.14.x.14.x.12"),
-    ],
-    com: Some(Com {
-        min: 1,
-        max: 12_000,
-    }),
-    ..MINIMUS
 };
 
 fn changes_of(alloc: Global, stage: Stage, text: &[u8]) -> Result<Vec<Change>, Fail> {
@@ -175,11 +141,15 @@ fn walk_of<'a>(
     problem: &'a Problem,
     leads: &'a LeadTable,
     numbers: &'a NumberTable,
-) -> Result<NumberWalk<'a>, Fail>
+) -> Result<NumberWalk<'a, 3>, Fail>
     requires leads { leads.now ≡ lead_table problem.now }
     requires numbers { IsNumbered problem.now numbers.now }
     ensures { IfOk result (λ walk. walk.problem ≡ problem.now) }
 {
+    // Leads of Plain Bob Doubles have three telling rows.
+    if numbers.width() != 3 {
+        return Err(Fail::from("the width is another"));
+    }
     match NumberWalk::new(alloc, problem, leads, numbers) {
         Ok(walk) => Ok(walk),
         Err(_) => Err(Fail::from("there is memory")),
@@ -203,7 +173,7 @@ fn ring(alloc: Global, leads: &LeadTable, steps: &[u8]) -> Result<Rung, Fail> {
 fn tells_of(
     alloc: Global,
     leads: &LeadTable,
-    walk: &NumberWalk,
+    walk: &NumberWalk<3>,
     node: &[u8],
 ) -> Result<bool, Fail> {
     let rung = ring(alloc, leads, node)?;
@@ -216,7 +186,7 @@ fn tells_of(
 }
 
 // Goes to the first live child by a step from this one on.
-fn down(problem: &Problem, walk: &mut NumberWalk, from: u8) -> Option<u8>
+fn down(problem: &Problem, walk: &mut NumberWalk<3>, from: u8) -> Option<u8>
     requires { walk.old.problem ≡ problem.now }
     ensures { walk.new.problem ≡ problem.now }
 {
@@ -231,7 +201,7 @@ fn down(problem: &Problem, walk: &mut NumberWalk, from: u8) -> Option<u8>
 }
 
 // Goes back, and gives the step to try next. None at the root.
-fn up(problem: &Problem, walk: &mut NumberWalk) -> Option<u8>
+fn up(problem: &Problem, walk: &mut NumberWalk<3>) -> Option<u8>
     requires { walk.old.problem ≡ problem.now }
     ensures { walk.new.problem ≡ problem.now }
 {
@@ -242,7 +212,7 @@ fn up(problem: &Problem, walk: &mut NumberWalk) -> Option<u8>
 }
 
 // Goes to the node of another walk.
-fn follow(walk: &NumberWalk, other: &mut NumberWalk)
+fn follow(walk: &NumberWalk<3>, other: &mut NumberWalk<3>)
     requires { other.old.problem ≡ walk.now.problem }
     ensures { other.new.problem ≡ walk.now.problem }
 {
@@ -254,8 +224,8 @@ fn visit_all(
     alloc: Global,
     problem: &Problem,
     leads: &LeadTable,
-    walk: &mut NumberWalk,
-    other: &mut NumberWalk,
+    walk: &mut NumberWalk<3>,
+    other: &mut NumberWalk<3>,
 ) -> Result<u64, Fail>
     requires walk { walk.old.problem ≡ problem.now }
     requires other { other.old.problem ≡ problem.now }
@@ -292,14 +262,11 @@ fn live_nodes(alloc: Global, draft: &Draft) -> Result<u64, Fail> {
 }
 
 // As many as the turns that a whole search takes.
-const TREES: [(&str, Draft, u64); 7] = [
+const TREES: [(&str, Draft, u64); 4] = [
     ("Doubles", DOUBLES, 32),
     ("in two parts", TWO_PARTS, 18),
     ("in three parts", THREE_PARTS, 11),
-    ("without bobs", NO_BOBS, 5),
     ("with a row", ASKED, 20),
-    ("Minimus", MINIMUS, 4),
-    ("two methods", CHANGING, 13),
 ];
 
 #[test]
@@ -317,7 +284,7 @@ fn goes_to(
     alloc: Global,
     problem: &Problem,
     leads: &LeadTable,
-    walk: &mut NumberWalk,
+    walk: &mut NumberWalk<3>,
     node: &[u8],
 ) -> Result<bool, Fail>
     requires { walk.old.problem ≡ problem.now }
@@ -351,7 +318,7 @@ fn goes_to_all(
     alloc: Global,
     problem: &Problem,
     leads: &LeadTable,
-    walk: &mut NumberWalk,
+    walk: &mut NumberWalk<3>,
 ) -> Result<bool, Fail>
     requires { walk.old.problem ≡ problem.now }
 {
@@ -389,7 +356,7 @@ fn goes_down_from_all(
     alloc: Global,
     problem: &Problem,
     leads: &LeadTable,
-    walk: &mut NumberWalk,
+    walk: &mut NumberWalk<3>,
 ) -> Result<bool, Fail>
     requires { walk.old.problem ≡ problem.now }
 {
@@ -408,5 +375,38 @@ fn first_steps_of_nodes(rt: HostRuntime) -> Result<(), Fail> {
     let numbers = numbers_of(rt.alloc(), &problem, &leads)?;
     let mut walk = walk_of(rt.alloc(), &problem, &leads, &numbers)?;
     assert!(rt; goes_down_from_all(rt.alloc(), &problem, &leads, &mut walk)?);
+    Ok(())
+}
+
+// Whether nodes come home, as often as there are parts. The head of a plain lead, 13524, turns four bells round; that of a
+// bob, 12354, swaps two; that of both, 13542, turns three round.
+const HOMES: [(&str, Draft, &[u8], bool); 7] = [
+    ("four plain leads", DOUBLES, &[0, 0, 0, 0], true),
+    ("three plain leads", DOUBLES, &[0, 0, 0], false),
+    ("twice two plain leads", TWO_PARTS, &[0, 0], true),
+    ("twice a bob", TWO_PARTS, &[1], true),
+    ("twice a plain lead", TWO_PARTS, &[0], false),
+    ("three times both", THREE_PARTS, &[0, 1], true),
+    ("three times a bob", THREE_PARTS, &[1], false),
+];
+
+fn comes_home(alloc: Global, draft: &Draft, node: &[u8]) -> Result<bool, Fail> {
+    let problem = problem_of(alloc, draft)?;
+    let leads = leads_of(alloc, &problem)?;
+    let numbers = numbers_of(alloc, &problem, &leads)?;
+    let mut walk = walk_of(alloc, &problem, &leads, &numbers)?;
+    if !goes_to(alloc, &problem, &leads, &mut walk, node)? {
+        return Err(Fail::from("the walk is elsewhere"));
+    }
+    Ok(walk.comes_home())
+}
+
+#[test]
+fn nodes_come_home(rt: HostRuntime) -> Result<(), Fail> {
+    for (name, draft, node, home) in HOMES {
+        if comes_home(rt.alloc(), &draft, node)? != home {
+            return Err(Fail::from(name));
+        }
+    }
     Ok(())
 }

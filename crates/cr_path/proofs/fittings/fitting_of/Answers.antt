@@ -1,5 +1,4 @@
-use Rattle.std.proofs.Common.{◌≡◌, ◌<◌, ◌++◌, ℕ, List, length, take, sym, ap, ap₂, ◌∙◌, subst, arith}
-use Rattle.std.specs.Prelude.{flat_map}
+use Rattle.std.proofs.Common.{◌<◌, ◌++◌, ℕ, List, length, sym, ap, ap₂, ◌∙◌, arith}
 use Rattle.cr_model.specs.declared.query.Cell.{Cell}
 use Rattle.cr_model.specs.Problems.{PatternParts}
 use Rattle.cr_query.specs.Shapes.{shape_of}

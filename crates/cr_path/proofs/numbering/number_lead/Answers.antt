@@ -32,7 +32,6 @@ returns-clause-begun c =
       end = c.in_ok-narrow-2.field-0;
       limit = c.limit.result;
       length = c.length_of.result;
-      twice = c.has_row_twice.result;
     } in
     let head : List ℕ = get_or old.heads place [] in
     let head_is : c.row_at-head.result ≡ head = c.row_at-head.ensures in
@@ -58,6 +57,5 @@ returns-clause-begun c =
       limit = c.limit.ensures head after_is home_is;
       counted = c.length_of.ensures.is;
       some = omega (arith, c.length_of.ensures.some);
-      twice = c.has_row_twice.ensures;
       records = c.in_ok-push.ensures.items;
     })

@@ -1,21 +1,30 @@
-use Rattle.std.proofs.Common.{◌≡◌, ◌*◌, ◌∙◌, ℕ, List, length, map, All, sym, ap, ap₂, subst}
+use Rattle.std.proofs.Common.{◌≡◌, ◌*◌, ◌∙◌, ℕ, Bool, List, length, map, All, sym, ap, ap₂, subst}
 use Rattle.cr_path.specs.Begun.{numbers_in}
-use Rattle.cr_path.specs.Numbers.{NumberParts, all_fitting, IsNumbered}
-use Rattle.cr_path.specs.Telling.{AreTelling, name_of, AreAllNamed}
+use Rattle.cr_path.specs.Numbers.{NumberParts, all_fitting, comes_home, IsNumbered}
+use Rattle.cr_path.specs.Telling.{AreTelling, name_of, AreLike, AreNamed}
+use Rattle.cr_path.specs.declared.numbering.RungLead.{RungLead}
 use Rattle.cr_path.proofs.Told.{told_whole}
 use Rattle.cr_path.proofs.table.table_of.Goals as goal
 
 pub invariant_of-result : goal.invariant_of-result
 invariant_of-result c =
     let heads_is : length c.in_ok-made.made.heads.rows ≡ length c.in_ok-heads.heads.items = sym (ap length c.in_ok-heads.ensures) in
+    let rung : ℕ = length c.in_ok-made.made.records.items in
+    let long : length c.in_ok-records.records.items ≡ rung = c.in_ok-records.ensures.long ∙ ap length c.deref-4.ensures.value in
     record {
-      steps = c.count.ensures.few;
-      records = c.in_ok-named.ensures.long ∙ c.in_ok-made.ensures.recorded ∙ ap₂ (λ (a b : ℕ). a * b) heads_is (sym c.count.ensures.is);
+      some = c.count-2.ensures.some;
+      steps = c.count-2.ensures.few;
+      records = long ∙ c.in_ok-made.ensures.recorded ∙ ap₂ (λ (a b : ℕ). a * b) heads_is (sym c.count-2.ensures.is);
+      numbers = c.in_ok-named.ensures.long ∙ ap (λ (n : ℕ). n * c.in_ok-named.named.width) (sym long);
     }
+
+pub homes_of-requires : goal.homes_of-requires
+homes_of-requires c =
+    subst (All (λ head. length head ≡ c.args.leads.now.stage)) (sym (c.deref-3.ensures.value ∙ c.in_ok-heads.ensures)) c.in_ok-made.ensures.staged
 
 pub fittings_of-requires : goal.fittings_of-requires
 fittings_of-requires c =
-    subst (All (λ head. length head ≡ c.args.leads.now.stage)) (sym (c.deref-3.ensures.value ∙ c.in_ok-heads.ensures)) c.in_ok-made.ensures.staged
+    subst (All (λ head. length head ≡ c.args.leads.now.stage)) (sym (c.deref-6.ensures.value ∙ c.in_ok-heads.ensures)) c.in_ok-made.ensures.staged
 
 pub returns : goal.returns
 returns c =
@@ -25,16 +34,33 @@ returns c =
     let telling : List (List ℕ) = c.in_ok-telling.telling.rows.items in
     let places : List ℕ = c.in_ok-telling.telling.places.items in
     let named = c.in_ok-named.named in
+    let records = c.in_ok-records.records.items in
+    let homes : List Bool = c.in_ok-homes.homes.items in
     let told : AreTelling made.rows.rows cover telling places (length made.rows.rows) =
     subst (λ (ns : List ℕ). AreTelling made.rows.rows ns telling places (length made.rows.rows)) c.deref.ensures.value c.in_ok-telling.ensures in
-    let are_named : AreAllNamed made.numbers.items (name_of cover places) (length telling) made.records.items named.records.items named.numbers.items (length made.records.items) =
-    subst (λ (ns : List ℕ). AreAllNamed made.numbers.items (name_of ns places) (length telling) made.records.items named.records.items named.numbers.items (length made.records.items))
+    let are_named : AreNamed made.numbers.items (name_of cover places) (length telling) named.width made.records.items named.numbers.items =
+    subst (λ (ns : List ℕ). AreNamed made.numbers.items (name_of ns places) (length telling) named.width made.records.items named.numbers.items)
     c.deref-2.ensures.value c.in_ok-named.ensures in
+    let heads_are : c.deref-3.result.now ≡ made.heads.rows = c.deref-3.ensures.value ∙ c.in_ok-heads.ensures in
+    let like : AreLike (length p.leads) homes made.records.items records (length made.records.items) =
+    subst (λ (steps : ℕ). AreLike steps homes made.records.items records (length made.records.items)) c.count.ensures.is
+    (subst (λ (flags : List Bool). AreLike c.count.result flags made.records.items records (length made.records.items)) c.deref-5.ensures.value
+    (subst (λ (rung : List RungLead). AreLike c.count.result c.deref-5.result.now rung records (length rung)) c.deref-4.ensures.value c.in_ok-records.ensures)) in
+    let homes_are : homes ≡ map (comes_home p) made.heads.rows =
+    c.in_ok-homes.ensures ∙ ap (λ (rows : List (List ℕ)). map (comes_home p) rows) heads_are in
     let fitting : c.in_ok-fittings.fittings.items ≡ map (all_fitting p made.heads.rows) p.query.patterns =
-    c.in_ok-fittings.ensures ∙ ap (λ (rows : List (List ℕ)). map (all_fitting p rows) p.query.patterns) (c.deref-3.ensures.value ∙ c.in_ok-heads.ensures) in
-    let parts : ℕ → List (List ℕ) → NumberParts =
-    (λ steps heads. record { steps = steps; heads = heads; rows = telling; records = named.records.items; numbers = named.numbers.items; fittings = c.in_ok-fittings.fittings.items }) in
-    subst (λ (steps : ℕ). IsNumbered p (parts steps c.in_ok-heads.heads.items)) (sym c.count.ensures.is)
+    c.in_ok-fittings.ensures ∙ ap (λ (rows : List (List ℕ)). map (all_fitting p rows) p.query.patterns) (c.deref-6.ensures.value ∙ c.in_ok-heads.ensures) in
+    let parts : ℕ → List (List ℕ) → NumberParts = (λ steps heads. record {
+      steps = steps;
+      heads = heads;
+      rows = telling;
+      records = records;
+      width = named.width;
+      numbers = named.numbers.items;
+      twice = c.in_ok-twice.twice.items;
+      fittings = c.in_ok-fittings.fittings.items;
+    }) in
+    subst (λ (steps : ℕ). IsNumbered p (parts steps c.in_ok-heads.heads.items)) (sym c.count-2.ensures.is)
     (subst (λ (heads : List (List ℕ)). IsNumbered p (parts (length p.leads) heads)) (sym c.in_ok-heads.ensures)
-    (told_whole p (numbers_in p made) c.in_ok-made.ensures cover c.in_ok-cover.ensures telling places told named.records.items named.numbers.items are_named
-    c.in_ok-fittings.fittings.items fitting))
+    (told_whole p (numbers_in p made) c.in_ok-made.ensures cover c.in_ok-cover.ensures telling places told records homes named.width named.numbers.items
+    c.in_ok-twice.twice.items like homes_are are_named c.in_ok-twice.ensures c.in_ok-fittings.fittings.items fitting))

@@ -1,4 +1,4 @@
-use Rattle.std.proofs.Common.{◌≡◌, ◌++◌, ℕ, List, [], take, drop, subst}
+use Rattle.std.proofs.Common.{ℕ, List, [], drop, subst}
 use Rattle.std.proofs.lemmas.List.{take_rest}
 use Rattle.cr_path.specs.Best.{IsWay}
 use Rattle.cr_path.proofs.Turned.{no_way}

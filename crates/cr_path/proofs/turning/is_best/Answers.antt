@@ -1,4 +1,4 @@
-use Rattle.std.proofs.Common.{◌≡◌, List, ℕ, sym, ◌∙◌, subst, append-nil}
+use Rattle.std.proofs.Common.{List, ℕ, sym, ◌∙◌, subst, append-nil}
 use Rattle.std.proofs.lemmas.Bool.{false≢true}
 use Rattle.cr_model.specs.Callings.{rows_of}
 use Rattle.cr_query.specs.Meeting.{MeetsByRows}

@@ -1,10 +1,8 @@
-use Rattle.std.proofs.Common.{◌≡◌, ◌-◌, ℕ, List, length, take, drop, Ordering, Less, Equal, Greater, nat_cmp, refl, sym, ap, ap₂, ◌∙◌, subst}
+use Rattle.std.proofs.Common.{◌≡◌, ◌-◌, ℕ, List, length, take, drop, Ordering, Less, Equal, Greater, nat_cmp, refl, sym, ap, ◌∙◌}
 use Rattle.std.specs.Cmp.Lexicographic.{slice_cmp}
 use Rattle.std.specs.Ordering.{ordering_then}
-use Rattle.std.specs.Prelude.{IsTrue}
 use Rattle.std.proofs.lemmas.List.{take_rest}
 use Rattle.cr_model.specs.Decided.{rotated}
-use Rattle.cr_model.specs.Touches.{IsLess}
 use Rattle.std.proofs.lemmas.Bool.{false≢true}
 use Rattle.cr_path.proofs.Turned.{turned_cmp, greater≢less}
 use Rattle.cr_path.proofs.turning.is_turned_less.Goals as goal

@@ -6,6 +6,6 @@ use Rattle.cr_path.proofs.ends.Ends.keep_uncut.Goals as goal
 pub returns : goal.returns
 returns c p t node are uncut =
     let e = c.self.inside in
-    last_kept p t node e.ends.items e.last (record { head = c.last-end.result.head; rung = c.last-end.result.rung; uncut = c.args.uncut }) (omega (arith, c.self.invariant.0, c.self.invariant.1))
+    last_kept p t node e.ends.items e.last (record { base = c.last-end.result.base; rung = c.last-end.result.rung; uncut = c.args.uncut; home = c.last-end.result.home }) (omega (arith, c.self.invariant.0, c.self.invariant.1))
     (subst (AreEnds p t node) (sym c.self.view_is) are)
     (uncut_kept p t node c.last-end.result c.args.uncut (c.last-end.ensures p t node are) uncut)

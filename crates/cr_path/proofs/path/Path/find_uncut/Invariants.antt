@@ -3,7 +3,7 @@ use Rattle.cr_path.specs.Sets.{AreSeen}
 use Rattle.cr_path.proofs.path.Path.find_uncut.Given as goal
 
 abbrev pub invariant-loop-step : goal.invariant-loop-step
-invariant-loop-step l = record {
+invariant-loop-step g l = record {
   seen : AreSeen l.self.problem l.self.node l.step l.uncut;
   from : l.first ≤ l.step;
 }

@@ -2,7 +2,7 @@ use Rattle.std.proofs.Common.{◌≡◌, ◌≤◌, take, length}
 use Rattle.cr_path.proofs.path.Path.go_back_to.Given as goal
 
 abbrev pub invariant-loop-self : goal.invariant-loop-self
-invariant-loop-self l = record {
+invariant-loop-self g l = record {
   problem : l.self.problem ≡ l.initial.self.problem;
   numbers : l.self.numbers ≡ l.initial.self.numbers;
   long : l.number ≤ length l.self.node;
@@ -10,4 +10,4 @@ invariant-loop-self l = record {
 }
 
 abbrev pub decreases-loop-self : goal.decreases-loop-self
-decreases-loop-self l = length l.self.node
+decreases-loop-self g l = length l.self.node

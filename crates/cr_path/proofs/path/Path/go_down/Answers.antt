@@ -7,13 +7,13 @@ use Rattle.cr_path.proofs.Living.{AreDead, dead_on, dead_below, one_dead_more, f
 use Rattle.cr_path.proofs.path.Path.go_down.Goals as goal
 
 pub returns-then-not-is_clean-clause-step : goal.returns-then-not-is_clean-clause-step
-returns-then-not-is_clean-clause-step c =
+returns-then-not-is_clean-clause-step g c =
     let v = c.args.self.now in
-    let sound = subst (λ (w : PathParts). IsSound w.problem) c.self.view_is c.self.invariant.sound in
+    let sound = subst (λ (w : PathParts). IsSound w.problem) c.self.view_is c.self.invariant.0.sound in
     none_live v.problem v.node c.args.from c.requires.from (dead_below c.what_is_hopeless_by_leads_is_hopeless.ensures v.problem v.node c.args.from sound (sym c.is_clean.ensures ∙ c.if-not-is_clean.true))
 
 pub returns-then-goes_live-clause-step : goal.returns-then-goes_live-clause-step
-returns-then-goes_live-clause-step c =
+returns-then-goes_live-clause-step g c =
     let v = c.args.self.now in
     let first = subst (λ (w : PathParts). IsFirst w.problem most_rows w.node c.loop-step.next c.in-Some.step) c.loop-step.invariant.walk c.in-Some.ensures.first in
     let dead = subst (λ (w : PathParts). AreDead w.problem w.node c.args.from c.loop-step.next) c.loop-step.invariant.walk c.loop-step.invariant.dead in
@@ -22,7 +22,7 @@ returns-then-goes_live-clause-step c =
     (dead_on c.what_is_hopeless_by_leads_is_hopeless.ensures v.problem v.node c.args.from c.loop-step.next c.in-Some.step dead first.before) lives
 
 pub loop-step-preserved : goal.loop-step-preserved
-loop-step-preserved c =
+loop-step-preserved g c =
     let w = c.loop-step.self in
     let same = c.if-goes_live.ensures.path ∙ c.in-Some.ensures.same in
     let here = subst (λ (v : PathParts). is_live v.problem most_rows v.node c.in-Some.step ≡ false) c.in-Some.ensures.same (sym c.if-goes_live.ensures.live) in
@@ -39,7 +39,7 @@ loop-step-preserved c =
     }
 
 pub returns-clause-step : goal.returns-clause-step
-returns-clause-step c =
+returns-clause-step g c =
     let v = c.args.self.now in
     let cut = subst (λ (w : PathParts). AreCut w.problem most_rows w.node c.loop-step.next (length w.problem.leads)) c.loop-step.invariant.walk c.in_default.ensures.first in
     let dead = subst (λ (w : PathParts). AreDead w.problem w.node c.args.from c.loop-step.next) c.loop-step.invariant.walk c.loop-step.invariant.dead in

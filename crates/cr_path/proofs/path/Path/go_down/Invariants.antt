@@ -4,7 +4,7 @@ use Rattle.cr_path.specs.Living.{is_clean, is_live}
 use Rattle.cr_path.proofs.path.Path.go_down.Given as goal
 
 abbrev pub invariant-loop-step : goal.invariant-loop-step
-invariant-loop-step l = record {
+invariant-loop-step g l = record {
   walk : l.self ≡ l.fn.self;
   from : l.fn.from ≤ l.next;
   within : l.next ≤ length l.self.problem.leads;
@@ -13,4 +13,4 @@ invariant-loop-step l = record {
 }
 
 abbrev pub decreases-loop-step : goal.decreases-loop-step
-decreases-loop-step l = length l.self.problem.leads - l.next
+decreases-loop-step g l = length l.self.problem.leads - l.next

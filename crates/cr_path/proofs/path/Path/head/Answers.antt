@@ -2,18 +2,25 @@ use Rattle.std.proofs.Common.{◌∙◌, length, ap}
 use Rattle.cr_model.specs.Callings.{head_of}
 use Rattle.cr_path.specs.Walks.{PathParts}
 use Rattle.cr_path.proofs.Children.{head_long}
+use Rattle.cr_path.proofs.Places.{some_head}
 use Rattle.cr_path.proofs.path.Path.head.Goals as goal
 
 pub head_at-requires : goal.head_at-requires
-head_at-requires c = (c.last.ensures c.self.inside.problem.now c.self.inside.numbers.now c.self.inside.steps c.self.invariant.ends).numbered
+head_at-requires g c =
+    let w = c.self.inside in
+    let at_end = c.last.ensures w.problem.now w.numbers.now w.steps c.self.invariant.0.ends in
+    some_head w.numbers.now (head_of w.problem.now w.steps) c.last.result.base at_end.from
 
 pub returns-clause-is : goal.returns-clause-is
-returns-clause-is c =
-    c.head_at.ensures ∙ (c.last.ensures c.self.inside.problem.now c.self.inside.numbers.now c.self.inside.steps c.self.invariant.ends).is
-    ∙ ap (λ (w : PathParts). head_of w.problem w.node) c.self.view_is
+returns-clause-is g c =
+    let w = c.self.inside in
+    let at_end = c.last.ensures w.problem.now w.numbers.now w.steps c.self.invariant.0.ends in
+    c.head_at.ensures (head_of w.problem.now w.steps) at_end.from ∙ ap (λ (v : PathParts). head_of v.problem v.node) c.self.view_is
 
 pub returns-clause-same_stage : goal.returns-clause-same_stage
-returns-clause-same_stage c =
-    ap length (c.head_at.ensures ∙ (c.last.ensures c.self.inside.problem.now c.self.inside.numbers.now c.self.inside.steps c.self.invariant.ends).is)
-    ∙ head_long c.self.inside.problem.now c.self.inside.steps
-    ∙ ap (λ (w : PathParts). w.problem.stage) c.self.view_is
+returns-clause-same_stage g c =
+    let w = c.self.inside in
+    let at_end = c.last.ensures w.problem.now w.numbers.now w.steps c.self.invariant.0.ends in
+    ap length (c.head_at.ensures (head_of w.problem.now w.steps) at_end.from)
+    ∙ head_long w.problem.now w.steps
+    ∙ ap (λ (v : PathParts). v.problem.stage) c.self.view_is

@@ -5,7 +5,7 @@ use Rattle.cr_path.specs.Walks.{PathParts}
 use Rattle.cr_path.proofs.path.Path.is_hopeless.Goals as goal
 
 pub returns : goal.returns
-returns c =
+returns g c =
     let w = c.self.inside in
     let hopes = subst (λ (v : PathParts). is_hopeless_by_leads v.problem v.node ≡ false) (sym c.self.view_is) c.requires in
-    c.is_hopeless.ensures w.problem.now w.steps c.self.invariant.counted hopes ∙ ap (λ (v : PathParts). is_hopeless v.problem v.node) c.self.view_is
+    c.is_hopeless.ensures w.problem.now w.steps c.self.invariant.0.counted hopes ∙ ap (λ (v : PathParts). is_hopeless v.problem v.node) c.self.view_is

@@ -6,6 +6,6 @@ use Rattle.cr_path.specs.Walks.{PathParts}
 use Rattle.cr_path.proofs.path.Path.meets_counts.Goals as goal
 
 pub returns : goal.returns
-returns c =
+returns g c =
     subst (λ (w : PathParts). IsTrue c.meets_counts.result ↔ (MeetsCounts w.problem (touch_of w.problem w.node) × MeetsMethodCounts w.problem (touch_of w.problem w.node))) c.self.view_is
-    (c.meets_counts.ensures c.self.inside.problem.now c.self.inside.steps c.self.invariant.counted)
+    (c.meets_counts.ensures c.self.inside.problem.now c.self.inside.steps c.self.invariant.0.counted)

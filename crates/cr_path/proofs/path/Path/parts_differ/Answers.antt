@@ -1,4 +1,4 @@
-use Rattle.std.proofs.Common.{◌≡◌, ◌∙◌, ℕ, List, true, not, length, sym, ap, ap₂, subst}
+use Rattle.std.proofs.Common.{◌≡◌, ◌∙◌, ℕ, List, true, not, sym, ap, subst}
 use Rattle.std.specs.List.{list_any}
 use Rattle.cr_row.specs.Rows.{rounds}
 use Rattle.cr_model.specs.Callings.{changes_of_all, rows_from, rows_of, head_of}
@@ -14,20 +14,21 @@ use Rattle.cr_path.proofs.Enough.{told_all}
 use Rattle.cr_path.proofs.path.Path.parts_differ.Goals as goal
 
 pub bring_new_rows-requires-clause-head : goal.bring_new_rows-requires-clause-head
-bring_new_rows-requires-clause-head c =
+bring_new_rows-requires-clause-head g c =
     let w = c.self.inside in
-    let at_end = c.last-head.ensures w.problem.now w.numbers.now w.steps c.self.invariant.ends in
-    record { numbered = at_end.numbered; long = ap length at_end.is ∙ head_long w.problem.now w.steps }
+    let at_end = c.last-base.ensures w.problem.now w.numbers.now w.steps c.self.invariant.0.ends in
+    record { row = head_of w.problem.now w.steps; is = record { from = at_end.from; long = head_long w.problem.now w.steps } }
 
 pub returns : goal.returns
-returns c =
+returns g c =
     let w = c.self.inside in
     let p = w.problem.now in
     let t = w.numbers.now in
-    let at_end = c.last-head.ensures p t w.steps c.self.invariant.ends in
+    let at_end = c.last-base.ensures p t w.steps c.self.invariant.0.ends in
     let differ : rows_differ (rows_of p w.steps) ≡ true = ap (λ (v : PathParts). rows_differ (rows_of v.problem v.node)) c.self.view_is ∙ c.requires.fresh in
     let home : head_of p (touch_of p w.steps) ≡ rounds p.stage = subst (λ (v : PathParts). head_of v.problem (touch_of v.problem v.node) ≡ rounds v.problem.stage) (sym c.self.view_is) c.requires.home in
-    c.bring_new_rows.ensures (rows_of p w.steps) (told_all p t c.self.invariant.numbered w.steps w.ends c.self.invariant.ends c.self.invariant.valid) (marks_of p t w.steps w.marks.marks w.marks.fresh c.self.invariant.marked (all_fresh p t w.steps w.marks.marks w.marks.fresh c.self.invariant.marked differ))
-    ∙ ap₂ (λ (row : List ℕ) (word : List ℕ). not (list_any (is_listed (rows_of p w.steps)) (rows_from row (changes_of_all p (repeated c.parts_to_try-parts.result word))))) at_end.is c.steps.ensures.is
+    c.bring_new_rows.ensures (head_of p w.steps) (rows_of p w.steps) (record { from = at_end.from; long = head_long p w.steps })
+    (told_all p t c.self.invariant.0.numbered w.steps w.ends c.self.invariant.0.ends c.self.invariant.0.valid) (marks_of p t w.steps w.marks.marks w.marks.fresh c.self.invariant.0.marked (all_fresh p t w.steps w.marks.marks w.marks.fresh c.self.invariant.0.marked differ))
+    ∙ ap (λ (word : List ℕ). not (list_any (is_listed (rows_of p w.steps)) (rows_from (head_of p w.steps) (changes_of_all p (repeated c.parts_to_try-parts.result word))))) c.steps.ensures.is
     ∙ touch_told p w.steps c.parts_to_try-parts.result differ home c.parts_to_try-parts.ensures.within c.parts_to_try-parts.ensures.enough
     ∙ ap (λ (v : PathParts). rows_differ (rows_of v.problem (touch_of v.problem v.node))) c.self.view_is

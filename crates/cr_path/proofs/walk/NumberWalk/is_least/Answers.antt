@@ -5,4 +5,4 @@ use Rattle.cr_path.specs.Walks.{WalkParts}
 use Rattle.cr_path.proofs.walk.NumberWalk.is_least.Goals as goal
 
 pub returns : goal.returns
-returns c = subst (λ (w : WalkParts). IsTrue c.is_least.result ↔ IsLeastRotation w.node) c.self.view_is c.is_least.ensures
+returns g c = subst (λ (w : WalkParts). IsTrue c.is_least.result ↔ IsLeastRotation w.node) c.self.view_is c.is_least.ensures

@@ -6,5 +6,5 @@ use Rattle.cr_path.specs.Walks.{WalkParts}
 use Rattle.cr_path.proofs.walk.NumberWalk.meets_counts.Goals as goal
 
 pub returns : goal.returns
-returns c =
+returns g c =
     subst (λ (w : WalkParts). IsTrue c.meets_counts.result ↔ (MeetsCounts w.problem (touch_of w.problem w.node) × MeetsMethodCounts w.problem (touch_of w.problem w.node))) c.self.view_is c.meets_counts.ensures

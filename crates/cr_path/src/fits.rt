@@ -1,0 +1,51 @@
+//! How many rows of one lead fit each pattern.
+
+ghost use Rattle.std.specs.Prelude.{◌≡◌, ◌≤◌, length, get_or, map};
+ghost use Rattle.cr_model.specs.Limits.{most_patterns};
+
+use crate::fittings::Fitting;
+use cr_model::limits::MOST_PATTERNS;
+use std::marker::Model;
+
+/// How many rows of one lead fit each pattern, in the order of the patterns. It takes no memory.
+#[derive(Drop)]
+pub struct Fits {
+    numbers: [u8; MOST_PATTERNS],
+    // How many of them there are.
+    count: usize,
+}
+
+impl Model for Fits {
+    ghost use Rattle.std.specs.Prelude.{◌≡◌, ◌≤◌, ℕ, List, length, take};
+    ghost use Rattle.cr_model.specs.Limits.{most_patterns};
+
+    ghost Value = { List ℕ };
+
+    ghost view = { λ f. take f.count f.numbers };
+
+    ghost invariant = { λ f. (length f.numbers ≡ most_patterns) × (f.count ≤ most_patterns) };
+}
+
+impl Fits {
+    /// Those of the lead at a place.
+    pub fn at(fittings: &[Fitting], place: usize) -> Fits
+        requires { length fittings.now ≤ most_patterns }
+        ensures { result ≡ map (λ fitting. get_or fitting place 0) fittings.now }
+    {
+        let mut numbers = [0; MOST_PATTERNS];
+        for index in 0..fittings.len() {
+            numbers[index] = fittings[index].at(place) as u8;
+        }
+        Fits {
+            numbers,
+            count: fittings.len(),
+        }
+    }
+
+    /// The numbers.
+    pub fn numbers(&self) -> &[u8]
+        ensures { result.now ≡ self.now }
+    {
+        &self.numbers[..self.count]
+    }
+}
