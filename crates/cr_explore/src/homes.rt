@@ -1,6 +1,6 @@
 //! Whether the touch of a node comes home and is long enough, told by the node's head and length.
 
-ghost use Rattle.std.specs.Prelude.{◌≡◌, ◌≢◌, ◌↔◌, ◌*◌, ◌<◌, ◌≤◌, ◌≤ℤ◌, ℕ, List, [], length, pos, IsTrue};
+ghost use Rattle.std.specs.Prelude.{◌≡◌, ◌↔◌, ◌*◌, ◌<◌, ◌≤◌, ◌≤ℤ◌, ℕ, List, length, pos, IsTrue};
 ghost use Rattle.cr_row.specs.Rows.{rounds};
 ghost use Rattle.cr_model.specs.Problems.{ProblemParts};
 ghost use Rattle.cr_model.specs.Callings.{head_of};
@@ -13,19 +13,13 @@ use cr_model::Problem;
 use cr_model::laws::joined_callings_multiply;
 use cr_row::{Row, Stage};
 
-/// Whether a node has steps and its touch ends in rounds. It takes a product for each part.
-pub fn comes_home(problem: &Problem, node: &[u8], head: Row) -> bool
-    requires head { head ≡ head_of problem.now node.now }
-    requires same_stage { length head ≡ problem.now.stage }
-    ensures { IsTrue result ↔ ((node.now ≢ []) × (head_of problem.now (touch_of problem.now node.now) ≡ rounds problem.now.stage)) }
+/// Whether the touch of a node with this head ends in rounds. It takes a product for each part.
+pub fn comes_home(problem: &Problem, head: Row) -> bool
+    requires { length head ≡ problem.now.stage }
+    ensures { (node : List ℕ) → head ≡ head_of problem.now node
+        → IsTrue result ↔ (head_of problem.now (touch_of problem.now node) ≡ rounds problem.now.stage) }
 {
-    has_steps(node) && is_rounds(power(head, parts_of(problem)), problem.stage())
-}
-
-fn has_steps(node: &[u8]) -> bool
-    ensures { IsTrue result ↔ (node.now ≢ []) }
-{
-    !node.is_empty()
+    is_rounds(power(head, parts_of(problem)), problem.stage())
 }
 
 // The head of so many nodes, one after another.

@@ -1,6 +1,6 @@
 //! Whether the touch of a walk's node is kept.
 
-ghost use Rattle.std.specs.Prelude.{◌≡◌, ◌↔◌, true, IsTrue, IfOk};
+ghost use Rattle.std.specs.Prelude.{◌≡◌, ◌≢◌, ◌↔◌, true, [], IsTrue, IfOk};
 ghost use Rattle.cr_row.specs.Rows.{rounds};
 ghost use Rattle.cr_leads.specs.Tables.{lead_table};
 ghost use Rattle.cr_model.specs.Callings.{rows_of, head_of, AllDiffer};
@@ -14,7 +14,7 @@ ghost use Rattle.cr_query.specs.Meeting.{MeetsCounts, MeetsMethodCounts};
 ghost use Rattle.cr_path.specs.Numbers.{IsNumbered};
 ghost use Rattle.cr_explore.specs.Keeping.{MayBeKept, IsToldByPatterns};
 
-use crate::homes::{comes_home, is_long_enough};
+use crate::homes::is_long_enough;
 use crate::standing::Standing;
 use crate::touches::touch_of;
 use cr_leads::LeadTable;
@@ -58,12 +58,12 @@ pub fn is_touch_kept<W: Standing>(
 
 /// The same of a walk by numbers. Where patterns are all that tells the rotations of a touch apart, and there is one part,
 /// nothing is rung, and no memory is taken.
-pub fn is_numbered_touch_kept(
+pub fn is_numbered_touch_kept<const WIDTH: usize>(
     alloc: Global,
     problem: &Problem,
     leads: &LeadTable,
     numbers: &NumberTable,
-    walk: &NumberWalk,
+    walk: &NumberWalk<WIDTH>,
 ) -> Result<bool, NoMemory>
     requires same { walk.now.problem ≡ problem.now }
     requires table { leads.now ≡ lead_table problem.now }
@@ -71,6 +71,10 @@ pub fn is_numbered_touch_kept(
     requires valid { IsValid problem.now walk.now.node }
     ensures { IfOk result (λ kept. IsTrue kept ↔ Kept problem.now (touch_of problem.now walk.now.node)) }
 {
+    // Few nodes come home, which is at hand.
+    if !walk.comes_home() {
+        return Ok(false);
+    }
     if is_told_by_patterns(problem) {
         Ok(is_best_touch(problem, numbers, walk))
     } else {
@@ -87,7 +91,11 @@ fn is_told_by_patterns(problem: &Problem) -> bool
 }
 
 // Whether the touch of a walk's node is kept, where patterns tell its rotations apart.
-fn is_best_touch(problem: &Problem, numbers: &NumberTable, walk: &NumberWalk) -> bool
+fn is_best_touch<const WIDTH: usize>(
+    problem: &Problem,
+    numbers: &NumberTable,
+    walk: &NumberWalk<WIDTH>,
+) -> bool
     requires same { walk.now.problem ≡ problem.now }
     requires numbered { IsNumbered problem.now numbers.now }
     requires valid { IsValid problem.now walk.now.node }
@@ -111,10 +119,25 @@ fn may_be_kept<W: Standing>(problem: &Problem, walk: &W) -> bool
     requires { W.problem_of walk.now ≡ problem.now }
     ensures { IsTrue result ↔ MayBeKept problem.now (W.node_of walk.now) }
 {
-    is_long_enough(problem, walk.length())
-        && comes_home(problem, walk.steps(), walk.head())
+    // Few nodes come home, and a walk by numbers has it at hand.
+    comes_home(problem, walk)
+        && is_long_enough(problem, walk.length())
         && meets_counts(problem, walk)
         && is_least_if_asked(problem, walk)
+}
+
+// Whether the node has steps, and its touch ends in rounds.
+fn comes_home<W: Standing>(problem: &Problem, walk: &W) -> bool
+    requires { W.problem_of walk.now ≡ problem.now }
+    ensures { IsTrue result ↔ ((W.node_of walk.now ≢ []) × (head_of problem.now (touch_of problem.now (W.node_of walk.now)) ≡ rounds problem.now.stage)) }
+{
+    walk.comes_home(problem) && has_steps(walk.steps())
+}
+
+fn has_steps(node: &[u8]) -> bool
+    ensures { IsTrue result ↔ (node.now ≢ []) }
+{
+    !node.is_empty()
 }
 
 // Whether the counts of marks and those of methods are met.

@@ -14,18 +14,18 @@ use cr_row::NoMemory;
 use std::alloc::Global;
 use std::marker::Model;
 
-/// A path that looks up the rows of its leads by their numbers.
+/// A path that looks up the rows of its leads by their numbers, where each lead has so many.
 ///
 /// It is seen as the problem and the node.
 #[derive(Drop)]
-pub struct NumberPath<'a> {
+pub struct NumberPath<'a, const WIDTH: usize> {
     problem: &'a Problem,
     leads: &'a LeadTable,
     numbers: &'a NumberTable,
-    walk: NumberWalk<'a>,
+    walk: NumberWalk<'a, WIDTH>,
 }
 
-impl<'a> Model for NumberPath<'a> {
+impl<'a, const WIDTH: usize> Model for NumberPath<'a, WIDTH> {
     ghost use Rattle.cr_path.specs.Walks.{WalkParts};
     ghost use Rattle.cr_explore.specs.Searches.{IsNumberPath};
 
@@ -36,16 +36,17 @@ impl<'a> Model for NumberPath<'a> {
     ghost invariant = { λ w. IsNumberPath w.problem.now w.leads.now w.numbers.now w.walk };
 }
 
-impl<'a> NumberPath<'a> {
+impl<'a, const WIDTH: usize> NumberPath<'a, WIDTH> {
     /// The path at the node without steps. Err where no memory is left.
     pub fn new(
         alloc: Global,
         problem: &'a Problem,
         leads: &'a LeadTable,
         numbers: &'a NumberTable,
-    ) -> Result<NumberPath<'a>, NoMemory>
+    ) -> Result<NumberPath<'a, WIDTH>, NoMemory>
         requires leads { leads.now ≡ lead_table problem.now }
         requires numbers { IsNumbered problem.now numbers.now }
+        requires width { numbers.now.width ≡ WIDTH }
         ensures { IfOk result (λ path. path ≡ record { problem = problem.now; node = [] }) }
     {
         let walk = NumberWalk::new(alloc, problem, leads, numbers)?;
@@ -58,7 +59,7 @@ impl<'a> NumberPath<'a> {
     }
 }
 
-impl<'a> Path for NumberPath<'a> {
+impl<'a, const WIDTH: usize> Path for NumberPath<'a, WIDTH> {
     ghost problem_of = { λ w. w.problem };
 
     ghost node_of = { λ w. w.node };

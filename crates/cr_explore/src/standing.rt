@@ -1,6 +1,6 @@
 //! Walks that stand at a node.
 
-ghost use Rattle.std.specs.Prelude.{◌≡◌, ℕ, ◌≤◌, ◌↔◌, true, not, List, length, IsTrue};
+ghost use Rattle.std.specs.Prelude.{◌≡◌, ℕ, ◌≤◌, ◌↔◌, true, not, List, IsTrue};
 ghost use Rattle.cr_row.specs.Rows.{rounds};
 ghost use Rattle.cr_model.specs.Problems.{ProblemParts};
 ghost use Rattle.cr_model.specs.Callings.{rows_of, length_of, head_of};
@@ -9,9 +9,10 @@ ghost use Rattle.cr_model.specs.Decided.{rows_differ};
 ghost use Rattle.cr_model.specs.Turning.{IsLeastRotation};
 ghost use Rattle.cr_query.specs.Meeting.{MeetsCounts, MeetsMethodCounts};
 
+use crate::homes::comes_home;
+use cr_model::Problem;
 use cr_path::NumberWalk;
 use cr_prune::Walk;
-use cr_row::Row;
 
 /// A walk at a node, asked for what tells whether the node's touch is kept. Nothing that it tells takes memory.
 pub trait Standing {
@@ -25,10 +26,10 @@ pub trait Standing {
     fn steps(&self) -> &[u8]
         ensures { result.now ≡ node_of self.now };
 
-    /// The last row of the node, or rounds where it has no steps.
-    fn head(&self) -> Row
-        ensures is { result ≡ head_of (problem_of self.now) (node_of self.now) }
-        ensures same_stage { length result ≡ (problem_of self.now).stage };
+    /// Whether the node's touch ends in rounds, where this is the problem.
+    fn comes_home(&self, problem: &Problem) -> bool
+        requires { problem_of self.now ≡ problem.now }
+        ensures { IsTrue result ↔ (head_of problem.now (touch_of problem.now (node_of self.now)) ≡ rounds problem.now.stage) };
 
     /// The number of rows of the node.
     fn length(&self) -> u64
@@ -64,8 +65,8 @@ impl<'a> Standing for Walk<'a> {
         self.steps()
     }
 
-    fn head(&self) -> Row {
-        self.head()
+    fn comes_home(&self, problem: &Problem) -> bool {
+        comes_home(problem, self.head())
     }
 
     fn length(&self) -> u64 {
@@ -89,7 +90,7 @@ impl<'a> Standing for Walk<'a> {
     }
 }
 
-impl<'a> Standing for NumberWalk<'a> {
+impl<'a, const WIDTH: usize> Standing for NumberWalk<'a, WIDTH> {
     ghost problem_of = { λ w. w.problem };
 
     ghost node_of = { λ w. w.node };
@@ -98,8 +99,8 @@ impl<'a> Standing for NumberWalk<'a> {
         self.steps()
     }
 
-    fn head(&self) -> Row {
-        self.head()
+    fn comes_home(&self, _problem: &Problem) -> bool {
+        self.comes_home()
     }
 
     fn length(&self) -> u64 {

@@ -14,15 +14,15 @@ use std::marker::Model;
 
 /// The search of a problem that has a falseness table of its leads.
 ///
-/// It looks up rows by their numbers, where those have room. Where they have none it asks the table whether two leads
-/// share a row, if leads are long, touches have few of them and there are few steps, and else it rings each lead, which
-/// is faster then.
+/// It looks up rows by their numbers, where those have room, and else it rings each lead: a walk that asks the table
+/// whether two leads share a row was slower wherever that could be told (docs/DECISIONS.md).
 ///
 /// It is seen as the problem.
 #[derive(Drop)]
 pub struct TableSearch {
     pub(crate) tables: Tables,
     pub(crate) table: FalseTable,
+    // Whether a walk without numbers asks the table.
     pub(crate) asks_table: bool,
 }
 
@@ -44,12 +44,11 @@ impl TableSearch {
         requires { IsFalseTable (lead_table problem.now) table }
         ensures { IfOk result (λ search. search ≡ problem.now) }
     {
-        let asks_table = is_faster_with_table(problem);
         let tables = Tables::new(alloc, problem)?;
         Ok(TableSearch {
             tables,
             table,
-            asks_table,
+            asks_table: false,
         })
     }
 
@@ -81,12 +80,4 @@ impl Explorer for TableSearch {
     fn explore(&self, alloc: Global, job: &[Node], turns: u64) -> Result<Done, NoMemory> {
         self.tables.explore(alloc, self.asked(), job, turns)
     }
-}
-
-// Whether asking the table takes less time than ringing, as it was measured: where a part has few leads, these are long,
-// and there are few steps, so that the sets of all pairs of steps stay near.
-fn is_faster_with_table(problem: &Problem) -> bool {
-    let shortest = problem.shortest().max(1);
-    let leads = problem.part_cap() / shortest;
-    leads.saturating_mul(problem.leads().len() as u64) <= shortest.saturating_mul(2)
 }

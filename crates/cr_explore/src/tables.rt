@@ -142,9 +142,24 @@ impl Tables {
             ≡ after_turns self.now most_rows job.now turns) }
     {
         let problem = &self.problem;
-        match &self.numbers {
-            Some(numbers) => turns_by_numbers(alloc, problem, &self.leads, numbers, job, turns),
-            None => turns_by_walk(alloc, problem, &self.leads, &self.reach, table, job, turns),
+        let leads = &self.leads;
+        let Some(numbers) = &self.numbers else {
+            return turns_by_walk(alloc, problem, leads, &self.reach, table, job, turns);
+        };
+        // These are all widths that there are. Another one would go by a walk.
+        match numbers.width() {
+            2 => turns_by_numbers::<2>(alloc, problem, leads, numbers, job, turns),
+            3 => turns_by_numbers::<3>(alloc, problem, leads, numbers, job, turns),
+            4 => turns_by_numbers::<4>(alloc, problem, leads, numbers, job, turns),
+            6 => turns_by_numbers::<6>(alloc, problem, leads, numbers, job, turns),
+            8 => turns_by_numbers::<8>(alloc, problem, leads, numbers, job, turns),
+            12 => turns_by_numbers::<12>(alloc, problem, leads, numbers, job, turns),
+            16 => turns_by_numbers::<16>(alloc, problem, leads, numbers, job, turns),
+            24 => turns_by_numbers::<24>(alloc, problem, leads, numbers, job, turns),
+            32 => turns_by_numbers::<32>(alloc, problem, leads, numbers, job, turns),
+            64 => turns_by_numbers::<64>(alloc, problem, leads, numbers, job, turns),
+            128 => turns_by_numbers::<128>(alloc, problem, leads, numbers, job, turns),
+            _ => turns_by_walk(alloc, problem, leads, &self.reach, table, job, turns),
         }
     }
 }
@@ -167,8 +182,8 @@ fn reach_of(alloc: Global, problem: &Problem, leads: &LeadTable) -> Result<Reach
     Ok(reach)
 }
 
-// Turns on a job by numbers.
-fn turns_by_numbers(
+// Turns on a job by numbers, of which each lead has so many.
+fn turns_by_numbers<const WIDTH: usize>(
     alloc: Global,
     problem: &Problem,
     leads: &LeadTable,
@@ -178,11 +193,12 @@ fn turns_by_numbers(
 ) -> Result<Explored, NoMemory>
     requires leads { leads.now ≡ lead_table problem.now }
     requires numbers { IsNumbered problem.now numbers.now }
+    requires width { numbers.now.width ≡ WIDTH }
     requires job { All (IsValid problem.now) job.now }
     ensures { IfOk result (λ done. record { found = done.found.items; rest = done.rest.items; used = done.used }
         ≡ after_turns problem.now most_rows job.now turns) }
 {
-    let mut path = NumberPath::new(alloc, problem, leads, numbers)?;
+    let mut path: NumberPath<WIDTH> = NumberPath::new(alloc, problem, leads, numbers)?;
     take_turns(alloc, &mut path, job, turns)
 }
 

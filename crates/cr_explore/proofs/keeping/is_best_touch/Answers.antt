@@ -11,28 +11,28 @@ use Rattle.cr_explore.proofs.KeptTouches.{asked, kept_where_best}
 use Rattle.cr_explore.proofs.keeping.is_best_touch.Goals as goal
 
 pub returns-then-not-may_be_kept : goal.returns-then-not-may_be_kept
-returns-then-not-may_be_kept c = (
+returns-then-not-may_be_kept g c = (
   λ h. absurd (false≢true h),
   λ kept. c.if-not-may_be_kept.ensures.1 (asked c.args.problem.now c.args.walk.now.node c.stage.ensures.sound
       (c.a_wanted_calling_is_kept_where_its_part_is_least.ensures c.args.problem.now) kept),
 )
 
 pub has_different_rows-requires-clause-sound : goal.has_different_rows-requires-clause-sound
-has_different_rows-requires-clause-sound c = subst IsSound (sym c.requires.same) c.stage.ensures.sound
+has_different_rows-requires-clause-sound g c = subst IsSound (sym c.requires.same) c.stage.ensures.sound
 
 pub has_different_rows-requires-clause-home : goal.has_different_rows-requires-clause-home
-has_different_rows-requires-clause-home c =
+has_different_rows-requires-clause-home g c =
     subst (λ (p : ProblemParts). head_of p (touch_of p c.args.walk.now.node) ≡ rounds p.stage) (sym c.requires.same) (c.may_be_kept.ensures.0 c.if-not-may_be_kept.false).home.1
 
 pub returns-then-not-has_different_rows : goal.returns-then-not-has_different_rows
-returns-then-not-has_different_rows c = (
+returns-then-not-has_different_rows g c = (
   λ h. absurd (false≢true h),
   λ kept. c.if-not-has_different_rows.ensures.1
       (subst (λ (q : ProblemParts). AllDiffer (rows_of q (touch_of q c.args.walk.now.node))) (sym c.requires.same) kept.wanted.touch.differ),
 )
 
 pub returns : goal.returns
-returns c =
+returns g c =
     let p = c.args.problem.now in
     let node : List ℕ = c.args.walk.now.node in
     let differ = subst (λ (q : ProblemParts). AllDiffer (rows_of q (touch_of q node))) c.requires.same (c.has_different_rows.ensures.0 c.if-not-has_different_rows.false) in
