@@ -5,3 +5,5 @@ pub mod WrongPlaces
 pub mod Sorting
 pub mod Tallies
 pub mod Dealing
+pub mod Buckets
+pub mod LineParts

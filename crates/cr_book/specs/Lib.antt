@@ -3,3 +3,4 @@ pub mod Reads
 pub mod Leads
 pub mod Measures
 pub mod Dealt
+pub mod Buckets

@@ -7,6 +7,7 @@ pub mod laws;
 mod lengths;
 mod order;
 mod reading;
+mod sharing;
 mod steps;
 mod summary;
 mod texts;
@@ -14,8 +15,9 @@ mod texts;
 pub use fault::CallingFault;
 pub use order::sort_found;
 pub use reading::read_calling;
+pub use sharing::{let_go_by, sort_found_by};
 pub use summary::summary_text;
-pub use texts::{book_text, calling_text};
+pub use texts::{book_text, book_text_by, calling_text};
 
 #[cfg(test)]
 mod tests;

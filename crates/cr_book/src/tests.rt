@@ -1,6 +1,6 @@
 //! What no clause says: printed texts, and each call once with ample memory.
 
-ghost use Rattle.std.specs.Prelude.{IsTrue, All};
+ghost use Rattle.std.specs.Prelude.{IsTrue, All, IfOk};
 ghost use Rattle.cr_model.specs.Callings.{HasSteps};
 
 use super::*;
@@ -232,6 +232,79 @@ fn found_touches_are_sorted(rt: HostRuntime) -> Result<(), Fail> {
         if text.as_slice() != want.as_bytes() {
             return Err(Fail::from(want));
         }
+    }
+    Ok(())
+}
+
+// Seven or eight digits of a number in base 3, the last one first.
+fn digits(alloc: Global, number: usize) -> Result<Vec<u8>, Fail> {
+    let mut digits = Vec::new(alloc);
+    let mut rest = number;
+    for _ in 0..7 + number % 2 {
+        digits.push((rest % 3) as u8)?;
+        rest /= 3;
+    }
+    Ok(digits)
+}
+
+// 6,000 lists of steps in no order, some of them twice.
+fn many_steps(alloc: Global) -> Result<Vec<Vec<u8>>, Fail> {
+    let mut many = Vec::new(alloc);
+    for index in 0..6_000 {
+        many.push(digits(alloc, index * 7_919 % 6_000)?)?;
+    }
+    Ok(many)
+}
+
+// They are callings of a problem.
+fn many_callings(alloc: Global, problem: &Problem) -> Result<Vec<Calling>, Fail>
+    ensures { IfOk result (λ callings. All (HasSteps problem.now) callings.items) }
+{
+    let mut callings = Vec::new(alloc);
+    for steps in many_steps(alloc)? {
+        match Calling::new(steps) {
+            Ok(calling) => callings.push(calling)?,
+            Err(_) => return Err(Fail::from("there are few steps")),
+        }
+    }
+    if !all_known(problem, &callings) {
+        return Err(Fail::from("the steps exist"));
+    }
+    Ok(callings)
+}
+
+fn have_steps(callings: &[Calling], wanted: &[Vec<u8>]) -> bool {
+    callings.len() == wanted.len()
+        && callings
+            .iter()
+            .zip(wanted)
+            .all(|(calling, steps)| calling.steps() == steps.as_slice())
+}
+
+#[test]
+fn threads_sort_as_one_does(rt: HostRuntime) -> Result<(), Fail> {
+    let alloc = rt.alloc();
+    let problem = problem_of(alloc, MINOR)?;
+    let mut wanted = many_steps(alloc)?;
+    wanted.sort_by(|one, other| one.len().cmp(&other.len()).then_with(|| one.cmp(other)))?;
+    for threads in [0, 1, 2, 3, 4, 7] {
+        let found = many_callings(alloc, &problem)?;
+        let sorted = sort_found_by(&rt, alloc, threads, &problem, found)?;
+        assert!(rt; have_steps(&sorted, &wanted));
+        let_go_by(&rt, alloc, threads, sorted);
+    }
+    Ok(())
+}
+
+#[test]
+fn threads_print_as_one_does(rt: HostRuntime) -> Result<(), Fail> {
+    let alloc = rt.alloc();
+    let problem = problem_of(alloc, MINOR)?;
+    let book = many_callings(alloc, &problem)?;
+    let wanted = book_text(alloc, &problem, &book)?;
+    for threads in [0, 1, 2, 3, 7] {
+        let text = book_text_by(&rt, alloc, threads, &problem, &book)?;
+        assert!(rt; text.as_slice() == wanted.as_slice());
     }
     Ok(())
 }

@@ -53,7 +53,7 @@ pub fn run<R: AllocGlobal + Threads + Wait + Sync, E: Explorer + Sync>(
         jobs = ran.jobs;
         allowed = without(allowed, ran.used);
     }
-    let now = left_in_order(rt.alloc(), problem, found, jobs)?;
+    let now = left_in_order(rt, rt.alloc(), workers as usize, problem, found, jobs)?;
     Ok(now)
 }
 

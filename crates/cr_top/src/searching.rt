@@ -14,7 +14,7 @@ use crate::boards::run;
 use crate::gate::{Gate, Gated};
 use crate::outcome::Outcome;
 use crate::start::{Start, start_of};
-use cr_book::book_text;
+use cr_book::{book_text_by, let_go_by};
 use cr_explore::make_search;
 use cr_model::Problem;
 use cr_model::laws::sizes_are_sums;
@@ -69,7 +69,9 @@ fn searched<R: AllocGlobal + Threads + Wait + Sync, G: Gate + Sync>(
         left,
     } = start;
     let left = run_behind(rt, workers, &problem, left, turns, gate, most)?;
-    written(rt.alloc(), &problem, &bytes, &left, turns)
+    let outcome = written(rt, workers, &problem, &bytes, &left, turns);
+    let_go_by(rt, rt.alloc(), workers as usize, left.found);
+    outcome
 }
 
 // Goes on with the search of a problem, by an explorer that enters the gate.
@@ -98,8 +100,9 @@ fn run_behind<R: AllocGlobal + Threads + Wait + Sync, G: Gate + Sync>(
 }
 
 // The text for what is left after the turns that are allowed.
-fn written(
-    alloc: Global,
+fn written<R: AllocGlobal + Threads + Sync>(
+    rt: &R,
+    workers: u32,
     problem: &Problem,
     bytes: &[u8],
     left: &Left,
@@ -114,13 +117,14 @@ fn written(
 {
     sizes_are_sums();
     let stopped = stopped_after(left, turns);
-    let text = text_after(alloc, problem, bytes, left, stopped)?;
+    let text = text_after(rt, workers, problem, bytes, left, stopped)?;
     Ok(Outcome { text, stopped })
 }
 
 // The checkpoint of what is left where the search stopped, and else the book.
-fn text_after(
-    alloc: Global,
+fn text_after<R: AllocGlobal + Threads + Sync>(
+    rt: &R,
+    workers: u32,
     problem: &Problem,
     bytes: &[u8],
     left: &Left,
@@ -131,8 +135,8 @@ fn text_after(
     ensures { IfOk result (λ text. IsTextAfter problem.now bytes.now left.now.found.items (lists left.now.jobs.items) stopped text.items) }
 {
     match stopped {
-        Some(_) => checkpoint_of(alloc, problem, bytes, left),
-        None => book_of(alloc, problem, left),
+        Some(_) => checkpoint_of(rt.alloc(), problem, bytes, left),
+        None => book_of(rt, workers, problem, left),
     }
 }
 
@@ -157,10 +161,15 @@ fn checkpoint_of(
     write_parts(alloc, problem, bytes, &left.found, &left.jobs)
 }
 
-// The book of what was found.
-fn book_of(alloc: Global, problem: &Problem, left: &Left) -> Result<Vec<u8>, NoMemory>
+// The book of what was found, written by as many threads as there are workers.
+fn book_of<R: AllocGlobal + Threads + Sync>(
+    rt: &R,
+    workers: u32,
+    problem: &Problem,
+    left: &Left,
+) -> Result<Vec<u8>, NoMemory>
     requires { CanGoOn problem.now left.now.found.items (lists left.now.jobs.items) }
     ensures { IfOk result (λ text. text.items ≡ text_of_book problem.now left.now.found.items) }
 {
-    book_text(alloc, problem, &left.found)
+    book_text_by(rt, rt.alloc(), workers as usize, problem, &left.found)
 }
