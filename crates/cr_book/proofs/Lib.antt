@@ -6,4 +6,4 @@ pub mod Sorting
 pub mod Tallies
 pub mod Dealing
 pub mod Buckets
-pub mod LineParts
+pub mod Chunks

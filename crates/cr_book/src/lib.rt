@@ -15,7 +15,7 @@ mod texts;
 pub use fault::CallingFault;
 pub use order::sort_found;
 pub use reading::read_calling;
-pub use sharing::{let_go_by, sort_found_by};
+pub use sharing::sort_found_by;
 pub use summary::summary_text;
 pub use texts::{book_text, book_text_by, calling_text};
 

@@ -291,7 +291,6 @@ fn threads_sort_as_one_does(rt: HostRuntime) -> Result<(), Fail> {
         let found = many_callings(alloc, &problem)?;
         let sorted = sort_found_by(&rt, alloc, threads, &problem, found)?;
         assert!(rt; have_steps(&sorted, &wanted));
-        let_go_by(&rt, alloc, threads, sorted);
     }
     Ok(())
 }

@@ -8,7 +8,7 @@ use Rattle.cr_row.specs.Rows.{product}
 use Rattle.cr_model.specs.Problems.{ProblemParts}
 use Rattle.cr_model.specs.Callings.{head_of}
 use Rattle.cr_model.specs.Queries.{repeated}
-use Rattle.cr_explore.proofs.Short.{repeated_more}
+use Rattle.cr_model.proofs.Repeating.{repeated_more}
 
 -- rows that are told to be the same are one
 pub same_rows : (a b : List ℕ) → Decides (pointwise nat_eq a b) (a ≡ b)

@@ -14,22 +14,6 @@ use Rattle.cr_model.specs.Sound.{IsSound, sound_depth}
 use Rattle.cr_model.specs.Dead.{parts_of}
 use Rattle.cr_model.proofs.Below.{words, some_parts, some_shortest, shortest_leads}
 
-words_steps : (a number : ℕ) (word : List ℕ) → length (words a number word) ≡ number * length word
-words_steps a zero word = omega arith
-words_steps a (suc number) word = omega (arith, length-append word (words (a + 1) number word), words_steps (a + 1) number word)
-
--- so many equal words have so many times the steps
-pub steps_in_parts : (number : ℕ) (word : List ℕ) → length (repeated number word) ≡ number * length word
-steps_in_parts number word = words_steps 0 number word
-
-words_more : (a number : ℕ) (word : List ℕ) → words a number word ++ word ≡ words a (suc number) word
-words_more a zero word = sym (append-nil word)
-words_more a (suc number) word = append_assoc word (words (a + 1) number word) word ∙ ap (λ rest. word ++ rest) (words_more (a + 1) number word)
-
--- one more
-pub repeated_more : (number : ℕ) (word : List ℕ) → repeated (number + 1) word ≡ repeated number word ++ word
-repeated_more number word = let one : number + 1 ≡ suc number = omega arith in ap (λ n. repeated n word) one ∙ sym (words_more 0 number word)
-
 module _ (p : ProblemParts) (node : List ℕ) (sound : IsSound p) (valid : IsValid p node) where
   -- the touch of a valid node is no longer than a touch may be
   pub few_changes : parts_of p * length_of p node ≤ cap p

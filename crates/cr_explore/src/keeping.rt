@@ -119,9 +119,9 @@ fn may_be_kept<W: Standing>(problem: &Problem, walk: &W) -> bool
     requires { W.problem_of walk.now ≡ problem.now }
     ensures { IsTrue result ↔ MayBeKept problem.now (W.node_of walk.now) }
 {
-    // Few nodes come home, and a walk by numbers has it at hand.
-    comes_home(problem, walk)
-        && is_long_enough(problem, walk.length())
+    // Its length is at hand, and whether a node comes home takes a walk that rings a product for each part.
+    is_long_enough(problem, walk.length())
+        && comes_home(problem, walk)
         && meets_counts(problem, walk)
         && is_least_if_asked(problem, walk)
 }

@@ -12,20 +12,11 @@ use cr_row::NoMemory;
 use std::alloc::Global;
 
 /// The touch of a node: its steps as often as the query has parts. Err where no memory is left.
-#[tactic(auto, using(crate::proofs::Short::repeated_more))]
 pub fn touch_of(alloc: Global, problem: &Problem, node: &[u8]) -> Result<Calling, NoMemory>
     requires { IsValid problem.now node.now }
     ensures { IfOk result (λ calling. calling ≡ touch_of problem.now node.now) }
 {
-    let parts = parts_of(problem);
-    let mut steps = Vec::with_capacity(alloc, parts * node.len())?;
-    for _part in 0..parts {
-        steps.extend_from_slice(node)?;
-    }
-    match Calling::new(steps) {
-        Ok(touch) => Ok(touch),
-        Err(_) => unreachable!(),
-    }
+    Calling::repeated(alloc, node, parts_of(problem))
 }
 
 /// The number of parts.

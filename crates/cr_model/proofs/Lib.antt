@@ -21,6 +21,7 @@ pub mod OneFault
 pub mod Parts
 pub mod Prefixes
 pub mod Reaching
+pub mod Repeating
 pub mod Ringing
 pub mod RingingBack
 pub mod Rotations

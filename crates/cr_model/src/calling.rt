@@ -1,17 +1,23 @@
 //! Callings, as lists of step numbers.
 
-ghost use Rattle.std.specs.Prelude.{◌≡◌, ◌↔◌, ◌≤◌, length, IsOk, IfOk, IfErr, vec_len};
+ghost use Rattle.std.specs.Prelude.{◌≡◌, ◌↔◌, ◌*◌, ◌≤◌, length, IsOk, IfOk, IfErr, vec_len};
 ghost use Rattle.cr_model.specs.Limits.{most_leads};
+ghost use Rattle.cr_model.specs.Queries.{repeated};
 
 use crate::limits::MOST_LEADS;
 use cr_row::NoMemory;
+use smallvec::SmallVec;
 use std::alloc::Global;
 use std::marker::Model;
+
+// How many steps lie in the calling itself. A book has millions of callings, and most have fewer leads than this: they
+// take no memory of their own, are sorted where they lie, and are let go at once.
+const ROOM: usize = 40;
 
 /// A list of at most 1,024 step numbers: the leads of a touch, in the order in which they are rung.
 #[derive(Drop)]
 pub struct Calling {
-    steps: Vec<u8>,
+    steps: SmallVec<u8, ROOM>,
 }
 
 impl Model for Calling {
@@ -33,10 +39,25 @@ impl Calling {
         ensures back { IfErr result (λ list. list.items ≡ steps.items) }
     {
         if steps.len() <= MOST_LEADS {
-            Ok(Calling { steps })
+            Ok(Calling {
+                steps: SmallVec::from_vec(steps),
+            })
         } else {
             Err(steps)
         }
+    }
+
+    /// These steps so many times over. It takes memory only for more than 40 steps; Err where there is none.
+    #[tactic(auto, using(crate::proofs::Repeating::repeated_more))]
+    pub fn repeated(alloc: Global, steps: &[u8], times: usize) -> Result<Calling, NoMemory>
+        requires { times * length steps.now ≤ most_leads }
+        ensures { IfOk result (λ calling. calling ≡ repeated times steps.now) }
+    {
+        let mut all = SmallVec::with_capacity(alloc, times * steps.len())?;
+        for _time in 0..times {
+            all.extend_from_slice(steps)?;
+        }
+        Ok(Calling { steps: all })
     }
 
     /// Its step numbers.
@@ -51,7 +72,7 @@ impl Calling {
     pub fn copy(&self, alloc: Global) -> Result<Calling, NoMemory>
         ensures { IfOk result (λ calling. calling ≡ self.now) }
     {
-        let steps = self.steps.as_slice().to_vec(alloc)?;
+        let steps = SmallVec::from_slice(alloc, self.steps.as_slice())?;
         Ok(Calling { steps })
     }
 }

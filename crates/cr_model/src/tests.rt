@@ -314,13 +314,30 @@ fn a_problem_tells_its_parts(rt: HostRuntime) -> Result<(), Fail> {
     Ok(())
 }
 
+// Lengths of callings that lie in themselves, up to 40 steps, and of longer ones.
+const LENGTHS: &[usize] = &[0, 1, 40, 41, 1_024];
+
 #[test]
 fn a_calling_gives_its_steps(rt: HostRuntime) -> Result<(), Fail> {
-    let Ok(calling) = Calling::new([2u8, 0, 1].to_vec(rt.alloc())?) else {
-        return Err(Fail::from("the calling is short"));
-    };
-    let copy = calling.copy(rt.alloc())?;
-    assert_eq!(rt; copy.steps(), [2, 0, 1].as_slice());
+    for length in LENGTHS {
+        let steps = vec![in rt.alloc(); 7u8; *length]?;
+        let Ok(calling) = Calling::new(vec![in rt.alloc(); 7u8; *length]?) else {
+            return Err(Fail::from("the calling is short"));
+        };
+        assert_eq!(rt; calling.copy(rt.alloc())?.steps(), steps.as_slice());
+    }
+    assert!(rt; Calling::new(vec![in rt.alloc(); 7u8; 1_025]?).is_err());
+    Ok(())
+}
+
+#[test]
+fn a_calling_is_equal_parts(rt: HostRuntime) -> Result<(), Fail> {
+    let none = Calling::repeated(rt.alloc(), &[2, 0, 1], 0)?;
+    let two = Calling::repeated(rt.alloc(), &[2, 0, 1], 2)?;
+    let many = Calling::repeated(rt.alloc(), &[2, 0, 1], 14)?;
+    assert!(rt; none.steps().is_empty());
+    assert_eq!(rt; two.steps(), [2, 0, 1, 2, 0, 1].as_slice());
+    assert!(rt; many.steps().len() == 42 && many.steps().ends_with(&[0, 1, 2, 0, 1]));
     Ok(())
 }
 

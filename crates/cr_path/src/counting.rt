@@ -57,7 +57,8 @@ impl Counting {
         }
     }
 
-    /// Goes back to the node without its last step, which is this one and whose lead is the one at this place.
+    /// Goes back to the node without its last step, which is this one and whose lead is the one at this place. It stays
+    /// a call, so that going back is short where nothing is counted.
     #[inline(never)]
     pub fn take_back(&mut self, numbers: &NumberTable, place: usize, step: u8)
         requires last { IfSome self.old.meter (λ meter. meter.node ≡ child (parent meter.node) step) }

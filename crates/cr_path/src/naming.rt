@@ -25,7 +25,8 @@ pub struct Named {
 
 impl Named {
     /// Those of leads that were rung, by a cover of their rows and the telling ones. Each lead has as many as the
-    /// width, which is the least that the one with most has room in, with its first one again where it has fewer. TooMany where they are more than 16,777,216.
+    /// width, which is the least that the one with most has room in, with its first one again where it has fewer.
+    /// TooMany where they are more than 16,777,216.
     pub fn of(
         alloc: Global,
         made: &Numbering,

@@ -94,8 +94,8 @@ impl Model for NumberTable {
 impl NumberTable {
     /// The numbers of a problem. None where there are too many of them: more heads that leads reach than the most, or
     /// than 2,097,152 over the changes of the shortest lead, or more than 1,048,576 rows, or more than 16,777,216
-    /// numbers where each lead has as many as the one with most telling rows (64 MiB), or so many patterns that their
-    /// numbers would take more than 16 MiB. Err where no memory is left.
+    /// numbers (64 MiB), of which each lead has as many as the least width that has room for the lead with most telling
+    /// rows, or so many patterns that their numbers would take more than 16 MiB. Err where no memory is left.
     pub fn new(
         alloc: Global,
         problem: &Problem,

@@ -14,7 +14,7 @@ use crate::boards::run;
 use crate::gate::{Gate, Gated};
 use crate::outcome::Outcome;
 use crate::start::{Start, start_of};
-use cr_book::{book_text_by, let_go_by};
+use cr_book::book_text_by;
 use cr_explore::make_search;
 use cr_model::Problem;
 use cr_model::laws::sizes_are_sums;
@@ -69,9 +69,7 @@ fn searched<R: AllocGlobal + Threads + Wait + Sync, G: Gate + Sync>(
         left,
     } = start;
     let left = run_behind(rt, workers, &problem, left, turns, gate, most)?;
-    let outcome = written(rt, workers, &problem, &bytes, &left, turns);
-    let_go_by(rt, rt.alloc(), workers as usize, left.found);
-    outcome
+    written(rt, workers, &problem, &bytes, &left, turns)
 }
 
 // Goes on with the search of a problem, by an explorer that enters the gate.

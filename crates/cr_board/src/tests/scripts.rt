@@ -12,7 +12,7 @@ use std::alloc::Global;
 use std::mem;
 use std::test::*;
 
-#[derive(Clone, Copy, Debug, PartialEq, Eq)]
+#[derive(Clone, Copy)]
 enum Call {
     Next(u32),
     Claim(u32, u64),
@@ -20,13 +20,15 @@ enum Call {
     Recall,
     // Hands in the finished work of one turn on a step of the plain hunt.
     Hunted(u32, u64, u8),
+    // Hands in the finished work of two turns on both steps.
+    BothHunted(u32, u64),
     // Hands in what a worker holds as it is, under a number.
     NotBegun(u32, u64),
 }
 
 use Call::*;
 
-#[derive(Clone, Copy, Debug, PartialEq, Eq)]
+#[derive(Clone, Copy, PartialEq)]
 enum Seen {
     Nothing,
     Stranger,
@@ -88,6 +90,10 @@ fn make(board: &mut Board, alloc: Global, hunter: &Hunter, call: Call) -> Result
         }
         Hunted(worker, number, step) => {
             let done = one_turn(alloc, hunter, step)?;
+            Ok(seen_handed(&board.hand_in(worker, number, done)))
+        }
+        BothHunted(worker, number) => {
+            let done = both_hunted(alloc)?;
             Ok(seen_handed(&board.hand_in(worker, number, done)))
         }
         NotBegun(worker, number) => {
@@ -247,11 +253,18 @@ const EVENTS: [Event; 14] = [
     Event::Next(0),
 ];
 
+fn play(board: &mut Board, alloc: Global) -> Result<(), Fail>
+    requires { board.old.opening.problem ≡ hunts }
+{
+    let hunter = make_hunter(alloc)?;
+    board.play(alloc, &EVENTS, &hunter)?;
+    Ok(())
+}
+
 #[test]
 fn the_script_as_events(rt: HostRuntime) -> Result<(), Fail> {
-    let hunter = make_hunter(rt.alloc())?;
     let mut board = board_of_two(rt.alloc(), None)?;
-    board.play(rt.alloc(), &EVENTS, &hunter)?;
+    play(&mut board, rt.alloc())?;
     assert!(rt; both_found(&board));
     Ok(())
 }
@@ -405,62 +418,125 @@ const CASES: [Case; 9] = [
     ),
 ];
 
+// A board with one job of these nodes, after these calls.
+fn after(alloc: Global, text: &[u8], budget: Option<u64>, rows: &[Row]) -> Result<Board, Fail> {
+    let mut board = board_of(alloc, text, budget)?;
+    follow(&mut board, alloc, rows)?;
+    Ok(board)
+}
+
 #[test]
 fn scripts_of_one_job(rt: HostRuntime) -> Result<(), Fail> {
-    for (text, budget, rows) in CASES {
-        let mut board = board_of(rt.alloc(), text, budget)?;
-        follow(&mut board, rt.alloc(), rows)?;
+    for (text, budget, rows) in &CASES {
+        after(rt.alloc(), text, *budget, rows)?;
     }
     Ok(())
+}
+
+// Of a budget of one turn.
+const OVER: [Row; 2] = [
+    (Next(0), Seen::Job(0, 1), [&[], &[], &[]]),
+    (BothHunted(0, 0), Seen::Over(1), [&[], &[], &[]]),
+];
+
+// A board of both steps as one job, with a budget of one turn.
+fn board_of_one_turn(alloc: Global) -> Result<Board, Fail> {
+    let problem = plain_hunts(alloc)?;
+    let nodes = both_nodes(alloc)?;
+    board_of_one(alloc, &problem, &nodes, Some(1))
 }
 
 // A budget of one turn is granted whole, and work of two turns is more.
 #[test]
 fn work_over_its_grant(rt: HostRuntime) -> Result<(), Fail> {
-    let problem = plain_hunts(rt.alloc())?;
-    let mut board = board_of_one(rt.alloc(), &problem, &both_nodes(rt.alloc())?, Some(1))?;
-    let taken = board.next_job(rt.alloc(), 0)?;
-    assert_eq!(rt; seen_taken(&taken), Seen::Job(0, 1));
-    let handed = board.hand_in(0, 0, both_hunted(rt.alloc())?);
-    assert_eq!(rt; seen_handed(&handed), Seen::Over(1));
-    assert_eq!(rt; board.journal().len(), 1);
+    let mut board = board_of_one_turn(rt.alloc())?;
+    follow(&mut board, rt.alloc(), &OVER)?;
+    assert!(rt; board.journal().len() == 1);
     Ok(())
 }
+
+// Whether the first worker's lane has two jobs, of these nodes.
+fn are_halves(board: &Board, front: &[Node], back: &[Node]) -> bool {
+    if board.opening().workers() != 3 {
+        return false;
+    }
+    let [first, second] = board.lane(0) else {
+        return false;
+    };
+    same_nodes(&first.nodes, front) && same_nodes(&second.nodes, back)
+}
+
+fn has_halves(board: &Board, alloc: Global) -> Result<bool, Fail> {
+    let front = nodes(alloc, b"ppp/ppb/")?;
+    let back = nodes(alloc, b"pb/bp/bb/")?;
+    Ok(are_halves(board, &front, &back))
+}
+
+// The first two calls of the case of five nodes.
+const HALVED: [Row; 2] = [
+    (Next(0), Seen::Job(0, 4096), [&[], &[], &[]]),
+    (NotBegun(0, 0), Seen::In, [&[1, 2], &[], &[]]),
+];
 
 // The halves of five nodes are the first two and the last three, in their order.
 #[test]
 fn halves_of_a_rest(rt: HostRuntime) -> Result<(), Fail> {
-    let mut board = board_of(rt.alloc(), b"ppp/ppb/pb/bp/bb/", None)?;
-    follow(&mut board, rt.alloc(), CASES[3].2.split_at(2).0)?;
-    if board.opening().workers() != 3 {
-        return Err(Fail::from("there are three workers"));
-    }
-    let [first, second] = board.lane(0) else {
-        return Err(Fail::from("there are two jobs"));
-    };
-    let front = nodes(rt.alloc(), b"ppp/ppb/")?;
-    let back = nodes(rt.alloc(), b"pb/bp/bb/")?;
-    assert!(rt; same_nodes(&first.nodes, &front) && same_nodes(&second.nodes, &back));
+    let board = after(rt.alloc(), b"ppp/ppb/pb/bp/bb/", None, &HALVED)?;
+    assert!(rt; has_halves(&board, rt.alloc())?);
     Ok(())
+}
+
+// The root of Plain Bob Doubles, for two workers.
+fn opening_of(alloc: Global, budget: u64) -> Result<Opening, Fail> {
+    Ok(Opening::fresh(alloc, doubles(alloc)?, Some(budget), 2)?)
+}
+
+fn copied(alloc: Global) -> Result<Opening, Fail> {
+    Ok(opening_of(alloc, 7)?.copy(alloc)?)
+}
+
+fn opened_of(alloc: Global) -> Result<Board, Fail> {
+    Ok(Board::open(alloc, opening_of(alloc, 7)?)?)
+}
+
+// Whether an opening has a budget of seven turns, two workers and one job.
+fn is_right(opening: &Opening) -> bool {
+    opening.budget() == Some(7)
+        && opening.workers() == 2
+        && opening.found().is_empty()
+        && opening.jobs().len() == 1
+}
+
+// Whether the second worker is given the root for seven turns.
+fn gives_the_root(board: &mut Board, alloc: Global) -> Result<bool, Fail> {
+    match board.next_job(alloc, 1)? {
+        Taken::Job(ticket) => Ok(
+            ticket.number == 0 && ticket.grant == 7 && ticket.nodes.len() == 1,
+        ),
+        _ => Err(Fail::from("there is a job")),
+    }
+}
+
+#[test]
+fn an_opening_and_its_copy(rt: HostRuntime) -> Result<(), Fail> {
+    let copy = copied(rt.alloc())?;
+    assert!(rt; is_right(&copy));
+    Ok(())
+}
+
+// Whether the board was opened from a copy of this.
+fn is_of(board: &Board, alloc: Global, budget: u64) -> Result<bool, Fail> {
+    let opening = opening_of(alloc, budget)?;
+    let copy = opening.copy(alloc)?;
+    Ok(board.same_opening(&copy))
 }
 
 #[test]
 fn openings(rt: HostRuntime) -> Result<(), Fail> {
-    let opening = Opening::fresh(rt.alloc(), doubles(rt.alloc())?, Some(7), 2)?;
-    let copy = opening.copy(rt.alloc())?;
-    let other = Opening::fresh(rt.alloc(), doubles(rt.alloc())?, Some(8), 2)?;
-    assert_eq!(rt; (copy.budget(), copy.workers()), (Some(7), 2));
-    assert_eq!(rt; (copy.found().len(), copy.jobs().len()), (0, 1));
-    let mut board = Board::open(rt.alloc(), opening)?;
-    assert!(rt; board.same_opening(&copy) && !board.same_opening(&other));
+    let mut board = opened_of(rt.alloc())?;
+    assert!(rt; is_of(&board, rt.alloc(), 7)? && !is_of(&board, rt.alloc(), 8)?);
     assert!(rt; !board.is_done());
-    let Taken::Job(ticket) = board.next_job(rt.alloc(), 1)? else {
-        return Err(Fail::from("there is a job"));
-    };
-    assert_eq!(rt;
-        (ticket.number, ticket.grant, ticket.nodes.len()),
-        (0, 7, 1)
-    );
+    assert!(rt; gives_the_root(&mut board, rt.alloc())?);
     assert!(rt; !board.is_done());
     Ok(())
 }
