@@ -1,9 +1,8 @@
 -- Which children of a node live.
 use Rattle.std.proofs.Common.{◌≡◌, ◌⊎◌, ℕ, zero, suc, ◌+◌, ◌-◌, ◌*◌, ◌<◌, ◌≤◌, Bool, true, false, cond, not, ◌&&◌, ◌||◌, nat_lt, nat_le, List, [], ◌∷◌, ◌++◌, length, get_or, take, drop, find, Option, Some, None, is_none, refl, sym, ap, ap₂, ◌∙◌, subst, inl, inr, arith, length-append}
-use Rattle.std.specs.Bool.{Decides}
 use Rattle.std.specs.List.{list_any, range_with_len}
 use Rattle.std.proofs.lemmas.Bool.{and_parts, or_parts, or_left, or_right, not-true, not-false, false≢true, ltb-false, cases_lt}
-use Rattle.std.proofs.lemmas.Bool.Decides.{same_from_decides, nat_tests}
+use Rattle.std.proofs.lemmas.Bool.Decides.{nat_tests}
 use Rattle.std.proofs.lemmas.List.{length_push}
 use Rattle.std.proofs.lemmas.List.Elements.{All-push}
 use Rattle.std.proofs.Math.Seq.{take-append-add, drop-append-add, drop-append_seam}
@@ -12,15 +11,13 @@ use Rattle.cr_model.specs.declared.reason.Reason.{Reason}
 use Rattle.cr_model.specs.declared.reason.Reason.TheVariants as reason
 use Rattle.cr_model.specs.Problems.{ProblemParts}
 use Rattle.cr_model.specs.Callings.{shortest, lead_length, rows_of, length_of, head_of}
-use Rattle.cr_model.specs.Dead.{parts_of, has_rounds, is_long, is_self_false, is_again, is_home, is_far, is_too_many, is_too_few, is_turned_back, turn_free, turns_back, dead}
+use Rattle.cr_model.specs.Dead.{parts_of, has_rounds, is_long, is_self_false, is_again, is_home, is_far, is_too_many, is_too_few, is_turned_back, dead}
 use Rattle.cr_model.specs.Decided.{rows_differ}
 use Rattle.cr_model.specs.Levels.{at_least, is_listed}
 use Rattle.cr_model.specs.Nodes.{IsValid}
 use Rattle.cr_model.specs.Queries.{cap, part_cap}
 use Rattle.cr_model.specs.Sizes.{most_rows, child}
 use Rattle.cr_model.specs.Sound.{IsSound}
-use Rattle.cr_model.specs.Turning.{TurnsBack}
-use Rattle.cr_model.proofs.TurnedBack.{turns_back_decided}
 use Rattle.cr_query.specs.Meters.{is_hopeless_by_leads}
 use Rattle.cr_path.specs.declared.table.LeadRecord.{LeadRecord}
 use Rattle.cr_path.specs.declared.ends.LeadEnd.{LeadEnd}
@@ -31,12 +28,6 @@ use Rattle.cr_path.specs.Numbers.{NumberParts, lead_from, head_after, brings_hom
 use Rattle.cr_path.proofs.Children.{child_rows, child_head, child_length, lead_long, some_changes, few_leads}
 use Rattle.cr_path.proofs.Listed.{differ_joined, listed_joined}
 use Rattle.cr_path.proofs.Marking.{lead_differs, marked_told, all_fresh, marks_of}
-
--- whether a word turns back, told by any test of it
-pub turned_told : (b free : Bool) (p : ProblemParts) (word : List ℕ) → free ≡ turn_free p.query → free ≡ true → Decides b (TurnsBack word) → b ≡ is_turned_back p word
-turned_told b free p word is holds tells =
-    same_from_decides b (turns_back word) tells (turns_back_decided word)
-    ∙ ap (λ f. f && turns_back word) (sym holds ∙ is)
 
 -- rounds in joined rows, where the first ones have none
 module _ (p : ProblemParts) (rows more : List (List ℕ)) (some : 0 < length more) where
@@ -309,10 +300,6 @@ module _ (law : HopelessByLeads) (p : ProblemParts) (node : List ℕ) where
     | inl before ↦ dead step low before
     | inr behind ↦ cut_dies law p most_rows (child node step) (cut step behind high)
   ]
-
-  -- all children of a node that is not clean
-  pub dead_below : (from : ℕ) → IsSound p → is_clean p node ≡ false → AreDead p node from (length p.leads)
-  dead_below from sound unclean step low high = cut_dies law p most_rows (child node step) (cut_below p node step most_rows sound high unclean)
 
   pub one_dead_more : (from end : ℕ) → AreDead p node from end → is_live p most_rows node end ≡ false → AreDead p node from (end + 1)
   one_dead_more from end dead here step low high = elim (cases_lt step end) [

@@ -5,9 +5,9 @@ use Rattle.cr_model.specs.Problems.{ProblemParts}
 use Rattle.cr_model.specs.Dead.{is_turned_back}
 use Rattle.cr_model.specs.Sizes.{most_rows, child}
 use Rattle.cr_model.specs.Sound.{IsSound, sound_steps}
-use Rattle.cr_path.specs.Living.{is_cut, AreCut, IsFirst}
+use Rattle.cr_path.specs.Living.{is_clean, is_cut, AreCut, IsFirst}
 use Rattle.cr_path.specs.Sets.{has_step, is_known, AreUncut, AreSeen}
-use Rattle.cr_path.proofs.Living.{turned_cut}
+use Rattle.cr_path.proofs.Living.{cut_below, turned_cut}
 
 pub few_steps : (p : ProblemParts) → IsSound p → length p.leads ≤ 24
 few_steps p sound = sound_steps p sound
@@ -19,6 +19,12 @@ seen_turned p node first set known none few turned = record {
   known = known;
   seen = λ step below. none step (omega (arith, below, few)) ∙ sym (ap not (turned_cut p most_rows (child node step) (turned step below)));
   free = λ step high below. none step below;
+}
+
+-- all children of a node that is not clean are cut
+pub none_of_unclean : (p : ProblemParts) (node : List ℕ) (set : ℕ) → IsSound p → is_clean p node ≡ false → ((step : ℕ) → step < 31 → has_step set step ≡ false) → AreUncut p node set
+none_of_unclean p node set sound unclean none = record {
+  each = λ step inside. none step (omega (arith, inside, few_steps p sound)) ∙ sym (ap not (cut_below p node step most_rows sound inside unclean));
 }
 
 -- one step more

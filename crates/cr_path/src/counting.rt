@@ -5,7 +5,7 @@ ghost use Rattle.cr_model.specs.OneTurn.{touch_of};
 ghost use Rattle.cr_model.specs.Problems.{ProblemParts};
 ghost use Rattle.cr_model.specs.Sizes.{child};
 ghost use Rattle.cr_query.specs.Meeting.{MeetsCounts, MeetsMethodCounts};
-ghost use Rattle.cr_query.specs.Meters.{parent, is_hopeless_by_leads};
+ghost use Rattle.cr_query.specs.Meters.{parent, meter_from, is_hopeless_by_leads};
 ghost use Rattle.cr_path.specs.Counted.{AsksNothing, IsCounted, CanCount};
 ghost use Rattle.cr_path.specs.Living.{is_hopeless};
 
@@ -44,29 +44,25 @@ impl Counting {
         })
     }
 
-    /// Goes to the node with this step more, whose lead is the one at this place. It stays a call, so that going on is
-    /// short where nothing is counted.
-    #[inline(never)]
+    /// Goes to the node with this step more, whose lead is the one at this place.
     pub fn add_lead(&mut self, numbers: &NumberTable, place: usize, step: u8)
         requires few { IfSome self.old.meter (λ meter. length meter.node < 1024) }
         requires lead { IfSome self.old.meter (λ meter. CanCount numbers.now place step meter.node meter) }
         ensures { (p : ProblemParts) (node : List ℕ) → IsCounted p node self.old → IsCounted p (child node step) self.new }
     {
         if let Some(meter) = &mut self.meter {
-            meter.add_counted(step, numbers.fits_at(place).numbers());
+            count_lead(meter, numbers, place, step);
         }
     }
 
-    /// Goes back to the node without its last step, which is this one and whose lead is the one at this place. It stays
-    /// a call, so that going back is short where nothing is counted.
-    #[inline(never)]
+    /// Goes back to the node without its last step, which is this one and whose lead is the one at this place.
     pub fn take_back(&mut self, numbers: &NumberTable, place: usize, step: u8)
         requires last { IfSome self.old.meter (λ meter. meter.node ≡ child (parent meter.node) step) }
         requires lead { IfSome self.old.meter (λ meter. CanCount numbers.now place step (parent meter.node) meter) }
         ensures { (p : ProblemParts) (node : List ℕ) → IsCounted p node self.old → IsCounted p (parent node) self.new }
     {
         if let Some(meter) = &mut self.meter {
-            meter.take_back_counted(step, numbers.fits_at(place).numbers());
+            take_back_lead(meter, numbers, place, step);
         }
     }
 
@@ -107,8 +103,30 @@ impl Counting {
     }
 }
 
-// Whether the node of a meter with this step more has too many or too few leads. It stays a call, so that the loop over
-// the children of a node is short where nothing is asked.
+// What a meter does stays a call in these three, so that going on, going back and judging children are short where
+// nothing is counted.
+
+// Tells a meter of a step more, whose lead is the one at this place.
+#[inline(never)]
+fn count_lead(meter: &mut Meter, numbers: &NumberTable, place: usize, step: u8)
+    requires few { length meter.old.node < 1024 }
+    requires lead { CanCount numbers.now place step meter.old.node meter.old }
+    ensures { meter.new ≡ meter_from meter.old.problem (child meter.old.node step) }
+{
+    meter.add_counted(step, numbers.fits_at(place).numbers());
+}
+
+// Takes the last step of a meter back, which is this one and whose lead is the one at this place.
+#[inline(never)]
+fn take_back_lead(meter: &mut Meter, numbers: &NumberTable, place: usize, step: u8)
+    requires last { meter.old.node ≡ child (parent meter.old.node) step }
+    requires lead { CanCount numbers.now place step (parent meter.old.node) meter.old }
+    ensures { meter.new ≡ meter_from meter.old.problem (parent meter.old.node) }
+{
+    meter.take_back_counted(step, numbers.fits_at(place).numbers());
+}
+
+// Whether the node of a meter with this step more has too many or too few leads.
 #[inline(never)]
 fn is_hopeless_by_leads(meter: &Meter, step: u8) -> bool
     requires { step < length meter.now.problem.leads }

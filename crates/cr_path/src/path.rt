@@ -106,9 +106,6 @@ impl<'a, const WIDTH: usize> Path<'a, WIDTH> {
         what_is_hopeless_by_leads_is_hopeless();
         // A problem keeps all of its checks, so that there are few steps.
         let _ = self.problem.stage();
-        if !self.is_clean() {
-            return None;
-        }
         let mut next = from;
         while let Some(step) = self.first_uncut(next) {
             if self.goes_live(step) {
@@ -226,9 +223,8 @@ impl<'a, const WIDTH: usize> Path<'a, WIDTH> {
         !self.has_repeat() && !self.marks.has_first()
     }
 
-    // The least step from this one on by which the child of a clean node is not cut.
+    // The least step from this one on by which the node's child is not cut.
     fn first_uncut(&mut self, from: u8) -> Option<u8>
-        requires clean { is_clean self.old.problem self.old.node ≡ true }
         requires from { from ≤ length self.old.problem.leads }
         ensures first { IsFirstUncut self.old.problem most_rows self.old.node from result }
         ensures same { self.new ≡ self.old }
@@ -242,9 +238,8 @@ impl<'a, const WIDTH: usize> Path<'a, WIDTH> {
         Some(step)
     }
 
-    // The known set of steps by which the children of a clean node are not cut. It is found once.
+    // The known set of steps by which the node's children are not cut. It is found once.
     fn uncut_children(&mut self) -> u32
-        requires { is_clean self.old.problem self.old.node ≡ true }
         ensures known { is_known result ≡ true }
         ensures are { AreUncut self.old.problem self.old.node result }
         ensures same { self.new ≡ self.old }
@@ -258,8 +253,22 @@ impl<'a, const WIDTH: usize> Path<'a, WIDTH> {
         uncut
     }
 
-    // The same, found by looking at each child.
+    // The same, found. All children of a node that is not clean are cut.
     fn find_uncut(&self, end: LeadEnd) -> u32
+        requires end { IsEnd self.now.problem self.now.numbers self.now.node end }
+        ensures known { is_known result ≡ true }
+        ensures are { AreUncut self.now.problem self.now.node result }
+    {
+        // A problem keeps all of its checks, so that there are few steps.
+        let _ = self.problem.stage();
+        if !self.is_clean() {
+            return no_steps();
+        }
+        self.judge_children(end)
+    }
+
+    // The same of a clean node, found by looking at each child.
+    fn judge_children(&self, end: LeadEnd) -> u32
         requires clean { is_clean self.now.problem self.now.node ≡ true }
         requires end { IsEnd self.now.problem self.now.numbers self.now.node end }
         ensures known { is_known result ≡ true }
@@ -275,20 +284,20 @@ impl<'a, const WIDTH: usize> Path<'a, WIDTH> {
 
     // The least step by which the child does not turn back, or the number of steps. Where the query is the same for all
     // rotations, the children by all lesser steps turn back, and those by greater ones do not.
-    #[tactic(auto, using(crate::proofs::Turns::straight_above))]
     fn first_straight(&self) -> u8
         ensures few { result ≤ length self.now.problem.leads }
         ensures turned { (step : ℕ) → step < result → is_turned_back self.now.problem (child self.now.node step) ≡ true }
         ensures straight { (step : ℕ) → result ≤ step → step < length self.now.problem.leads
             → is_turned_back self.now.problem (child self.now.node step) ≡ false }
     {
-        let count = self.step_count();
-        for step in 0..count {
-            if !self.is_turned_back(step) {
-                return step;
-            }
+        if !self.turn_free {
+            return 0;
         }
-        count
+        let count = self.step_count();
+        match self.steps.first_straight() {
+            Some(step) => step.min(count),
+            None => count,
+        }
     }
 
     // The number of steps of the problem.
@@ -342,13 +351,6 @@ impl<'a, const WIDTH: usize> Path<'a, WIDTH> {
         let is_again = self.marks.has_some(self.numbers_after(end, step));
         let is_hopeless = self.counting.is_hopeless_with(step);
         is_late | is_again | is_hopeless
-    }
-
-    // Whether the child by a step turns back, if the query is the same for all rotations.
-    fn is_turned_back(&self, step: u8) -> bool
-        ensures { result ≡ is_turned_back self.now.problem (child self.now.node step) }
-    {
-        self.turn_free && self.steps.turns_back_with(step)
     }
 
     // Goes to the child by a step, which is not cut, if it is not dead, and says so.

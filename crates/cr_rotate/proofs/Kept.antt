@@ -141,6 +141,26 @@ told_turned word (suc p) told = (λ e. absurd (omega arith), λ turned. absurd (
 pub told_turned_with : (word : List ℕ) (x p : ℕ) → Tells (word ++ x ∷ []) (length word + 1) p → (p ≡ 0) ↔ TurnsBack (word ++ x ∷ [])
 told_turned_with word x p told = told_turned (word ++ x ∷ []) p (subst (λ n. Tells (word ++ x ∷ []) n p) (sym (length-append word (x ∷ []))) told)
 
+-- a word that repeats its first steps turns back with a step that is less than the one that these bring next
+pub straight_from : (word : List ℕ) (x p before : ℕ) → FrontRepeats word (length word) p → before ≡ get_or word (length word - p) 0 → TurnsBack (word ++ x ∷ []) ↔ (x < before)
+straight_from word x p before front is = elim (cases_order x before) [
+  | inl same ↦ (λ turned. absurd (omega (arith, front.some, (told_turned_with word x p (of_same word x p before front is same)).1 turned)), λ less. absurd (omega (arith, less, same)))
+  | inr (inl less) ↦ (λ turned. less, λ again. (told_turned_with word x 0 (of_less word x p before front is less)).0 refl)
+  | inr (inr more) ↦ (
+    λ turned. absurd (omega (arith, (told_turned_with word x (length word + 1) (of_greater word x p before (length word + 1) front is more refl)).1 turned)),
+    λ less. absurd (omega (arith, less, more)),
+  )
+]
+
+-- one that turned back does with each step
+pub straight_never : (word : List ℕ) (x : ℕ) → Tells word (length word) 0 → TurnsBack (word ++ x ∷ [])
+straight_never word x told = (told_turned_with word x 0 (of_turned word x 0 refl told)).0 refl
+
+-- a step alone does not
+pub straight_alone : (word : List ℕ) (x : ℕ) → length word ≡ 0 → TurnsBack (word ++ x ∷ []) ↔ (x < 0)
+straight_alone word x none =
+    (λ turned. absurd (omega (arith, (told_turned_with word x 1 (of_one (word ++ x ∷ []) (length word) none)).1 turned)), λ less. absurd (omega (arith, less)))
+
 -- the empty word does not
 pub empty_turns : (word : List ℕ) → length word ≡ 0 → TurnsBack word → ⊥
 empty_turns word none turned = let down = (falls word turned).2 in omega (arith, down.inside)

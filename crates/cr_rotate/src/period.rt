@@ -1,6 +1,6 @@
 //! The period of a word that grows and shrinks at its end.
 
-ghost use Rattle.std.specs.Prelude.{◌≡◌, ◌+◌, ◌-◌, ◌<◌, ◌≤◌, ℕ, ◌↔◌, List, [], ◌∷◌, ◌++◌, length, take, IsTrue, IfOk, vec_len, vec_capacity};
+ghost use Rattle.std.specs.Prelude.{◌≡◌, ◌+◌, ◌-◌, ◌<◌, ◌≤◌, ℕ, ◌↔◌, List, [], ◌∷◌, ◌++◌, length, take, IsTrue, IfOk, IfSome, vec_len, vec_capacity};
 ghost use Rattle.cr_model.specs.Turning.{TurnsBack, IsLeastRotation};
 ghost use Rattle.cr_rotate.specs.Fronts.{FrontRepeats, IsKept, Tells};
 
@@ -89,6 +89,13 @@ impl Period {
         next_period(&self.steps, &self.periods, step) == 0
     }
 
+    /// The least step with which the word does not turn back, or None where it turns back with each step.
+    pub fn first_straight(&self) -> Option<u8>
+        ensures { (step : ℕ) → TurnsBack (self.now ++ step ∷ []) ↔ IfSome result (λ first. step < first) }
+    {
+        first_straight(&self.steps, &self.periods)
+    }
+
     /// Whether no rotation of the word is less than it.
     pub fn is_least(&self) -> bool
         ensures { IsTrue result ↔ IsLeastRotation self.now }
@@ -163,6 +170,21 @@ fn longer(steps: &[u8], period: u16, step: u8) -> u16
         period
     } else {
         (steps.len() + 1) as u16
+    }
+}
+
+// The least step with which the word does not turn back. None where it turns back with each.
+fn first_straight(steps: &[u8], periods: &[u16]) -> Option<u8>
+    requires { IsKept steps.now periods.now }
+    ensures { (step : ℕ) → TurnsBack (steps.now ++ step ∷ []) ↔ IfSome result (λ first. step < first) }
+{
+    if steps.is_empty() {
+        return Some(0);
+    }
+    match usize::from(last_period(steps, periods)) {
+        0 => None,
+        // The word repeats its first steps so far.
+        period => Some(steps[steps.len() - period]),
     }
 }
 

@@ -57,10 +57,14 @@ pub fn run<R: AllocGlobal + Threads + Wait + Sync, E: Explorer + Sync>(
     Ok(now)
 }
 
-// Moves what a board found behind what was found before.
+// Moves what a board found behind what was found before. Where that is nothing, its list is taken as it is.
 fn put_behind(found: &mut Vec<Calling>, mut more: Vec<Calling>) -> Result<(), NoMemory>
     ensures { OnOk result (found.new.items ≡ found.old.items ++ more.items) }
 {
+    if found.is_empty() {
+        *found = more;
+        return Ok(());
+    }
     found.append(&mut more)?;
     Ok(())
 }

@@ -1,16 +1,9 @@
 use Rattle.std.proofs.Common.{◌≡◌, ◌+◌, ◌≤◌, ◌∙◌, true, false, length, sym, subst, arith}
 use Rattle.cr_model.specs.Sizes.{most_rows}
-use Rattle.cr_model.specs.Sound.{IsSound}
-use Rattle.cr_path.specs.Living.{is_clean, is_live, AreCut, IsFirst}
+use Rattle.cr_path.specs.Living.{is_live, AreCut, IsFirst}
 use Rattle.cr_path.specs.Walks.{PathParts}
-use Rattle.cr_path.proofs.Living.{AreDead, dead_on, dead_below, one_dead_more, first_live, none_live}
+use Rattle.cr_path.proofs.Living.{AreDead, dead_on, one_dead_more, first_live, none_live}
 use Rattle.cr_path.proofs.path.Path.go_down.Goals as goal
-
-pub returns-then-not-is_clean-clause-step : goal.returns-then-not-is_clean-clause-step
-returns-then-not-is_clean-clause-step g c =
-    let v = c.args.self.now in
-    let sound = subst (λ (w : PathParts). IsSound w.problem) c.self.view_is c.self.invariant.0.sound in
-    none_live v.problem v.node c.args.from c.requires.from (dead_below c.what_is_hopeless_by_leads_is_hopeless.ensures v.problem v.node c.args.from sound (sym c.is_clean.ensures ∙ c.if-not-is_clean.true))
 
 pub returns-then-goes_live-clause-step : goal.returns-then-goes_live-clause-step
 returns-then-goes_live-clause-step g c =
@@ -32,7 +25,6 @@ loop-step-preserved g c =
       walk = same ∙ c.loop-step.invariant.walk;
       from = omega (arith, c.loop-step.invariant.from, first.from_on);
       within = subst (λ (v : PathParts). c.in-Some.step + 1 ≤ length v.problem.leads) (sym same) within;
-      clean = subst (λ (v : PathParts). is_clean v.problem v.node ≡ true) (sym same) c.loop-step.invariant.clean;
       dead = subst (λ (v : PathParts). AreDead v.problem v.node c.args.from (c.in-Some.step + 1)) (sym same)
           (one_dead_more c.what_is_hopeless_by_leads_is_hopeless.ensures w.problem w.node c.args.from c.in-Some.step
           (dead_on c.what_is_hopeless_by_leads_is_hopeless.ensures w.problem w.node c.args.from c.loop-step.next c.in-Some.step c.loop-step.invariant.dead first.before) here);

@@ -1,6 +1,6 @@
 use Rattle.std.proofs.Common.{◌≤◌}
 use Rattle.cr_path.specs.Sets.{AreSeen}
-use Rattle.cr_path.proofs.path.Path.find_uncut.Given as goal
+use Rattle.cr_path.proofs.path.Path.judge_children.Given as goal
 
 abbrev pub invariant-loop-step : goal.invariant-loop-step
 invariant-loop-step g l = record {
