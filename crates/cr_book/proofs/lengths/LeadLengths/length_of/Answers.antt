@@ -1,4 +1,4 @@
-use Rattle.std.proofs.Common.{◌≡◌, sym, arith, ◌∙◌}
+use Rattle.std.proofs.Common.{sym, arith, ◌∙◌}
 use Rattle.cr_book.proofs.lengths.LeadLengths.length_of.Goals as goal
 
 pub returns-clause-is : goal.returns-clause-is
