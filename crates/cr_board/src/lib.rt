@@ -33,6 +33,3 @@ pub use job::{LaneJob, Ticket};
 pub use opening::Opening;
 pub use parts::Parts;
 pub use taken::{Claimed, Taken};
-
-#[cfg(test)]
-mod tests;

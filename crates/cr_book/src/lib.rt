@@ -18,6 +18,3 @@ pub use reading::read_calling;
 pub use sharing::sort_found_by;
 pub use summary::summary_text;
 pub use texts::{book_text, book_text_by, calling_text};
-
-#[cfg(test)]
-mod tests;

@@ -23,6 +23,3 @@ pub use row_search::RowSearch;
 pub use search::{Explored, take_turns};
 pub use table_search::TableSearch;
 pub use walk_path::WalkPath;
-
-#[cfg(test)]
-mod tests;

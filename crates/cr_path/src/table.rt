@@ -248,6 +248,3 @@ fn rows_of(alloc: Global, stack: &RowStack) -> Result<Vec<Row>, NoMemory>
     }
     Ok(rows)
 }
-
-#[cfg(test)]
-mod tests;

@@ -154,6 +154,3 @@ impl<'a, const WIDTH: usize> NumberWalk<'a, WIDTH> {
         self.path.meets_counts()
     }
 }
-
-#[cfg(test)]
-mod tests;

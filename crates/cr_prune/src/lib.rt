@@ -16,6 +16,3 @@ mod walk;
 
 pub use pruner::Pruner;
 pub use walk::Walk;
-
-#[cfg(test)]
-mod tests;

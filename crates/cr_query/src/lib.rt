@@ -25,6 +25,3 @@ pub use meeting::meets;
 pub use meter::{Hopeless, Meter};
 pub use shape::Shape;
 pub use turning::turn_free;
-
-#[cfg(test)]
-mod tests;

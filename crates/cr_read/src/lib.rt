@@ -18,6 +18,3 @@ mod values;
 
 pub use laws::{a_file_is_taken_or_refused, bytes_have_one_answer, leads_are_in_order_and_whole};
 pub use reader::read_problem;
-
-#[cfg(test)]
-mod tests;

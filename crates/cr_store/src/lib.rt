@@ -22,8 +22,3 @@ pub use checkpoint::{Checkpoint, read_checkpoint};
 pub use collecting::{Left, left_in_order, left_of};
 pub use fault::CheckFault;
 pub use writing::{write_checkpoint, write_parts};
-
-#[cfg(test)]
-mod shape_tests;
-#[cfg(test)]
-mod tests;
