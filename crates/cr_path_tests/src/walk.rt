@@ -2,12 +2,13 @@ ghost use Rattle.std.specs.Prelude.{◌≡◌, IfOk};
 ghost use Rattle.cr_leads.specs.Tables.{lead_table};
 ghost use Rattle.cr_path.specs.Numbers.{IsNumbered};
 
-use super::*;
-use cr_leads::Rung;
+use cr_leads::{LeadTable, Rung};
 use cr_model::Cell::Bell;
-use cr_model::{Calling, Cell, Com, Count, Lead, Pattern, Query, Step};
+use cr_model::{Calling, Cell, Com, Count, Lead, Pattern, Problem, Query, Step};
+use cr_path::{NumberTable, NumberWalk};
 use cr_reach::ReachTable;
 use cr_row::{Change, Stage};
+use std::alloc::Global;
 use std::test::*;
 
 // A problem in short: of each lead the method, the mark and the changes, by the places made or `x` for none. At

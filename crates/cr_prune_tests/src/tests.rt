@@ -4,11 +4,11 @@ ghost use Rattle.cr_model.specs.Queries.{part_cap};
 ghost use Rattle.cr_leads.specs.Tables.{lead_table};
 ghost use Rattle.cr_false.specs.Sets.{IsFalseTable};
 
-use super::*;
 use cr_false::{Built, FalseTable};
 use cr_leads::LeadTable;
 use cr_model::Cell::Bell;
 use cr_model::{Cell, Com, Count, Lead, Pattern, Problem, Query, Reason, Step};
+use cr_prune::{Pruner, Walk};
 use cr_reach::ReachTable;
 use cr_row::{Change, Stage};
 use std::alloc::Global;

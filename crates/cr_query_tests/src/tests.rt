@@ -7,11 +7,10 @@ ghost use Rattle.cr_model.specs.Right.{FitsStage, pattern_at};
 ghost use Rattle.cr_model.specs.Sizes.{child};
 ghost use Rattle.cr_query.specs.Meters.{parent};
 
-use super::*;
-use crate::meeting::patterns_of;
 use cr_leads::LeadTable;
 use cr_model::Cell::{Any, Bell, Run};
 use cr_model::{Calling, Cell, Com, Count, Lead, MethodCount, Pattern, Problem, Query, Step};
+use cr_query::{Hopeless, Meter, Shape, is_kept, meets, turn_free};
 use cr_row::{Change, Row, Stage};
 use std::alloc::Global;
 use std::test::*;
@@ -442,6 +441,13 @@ fn fitting_in_all(
         rows.push(fitting_in(alloc, stage, &patterns[index], head, lead)?)?;
     }
     Ok(rows)
+}
+
+// The patterns of a query.
+fn patterns_of(query: &Query) -> &[Pattern]
+    ensures { result.now ≡ query.now.patterns }
+{
+    query.patterns.as_slice()
 }
 
 // How many rows of the lead of a step fit each pattern.

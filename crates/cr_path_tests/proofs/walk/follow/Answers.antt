@@ -1,7 +1,7 @@
 use Rattle.std.proofs.Common.{List, ℕ, rules, sym, subst}
 use Rattle.cr_model.specs.Nodes.{IsValid}
 use Rattle.cr_model.specs.Problems.{ProblemParts}
-use Rattle.cr_path.proofs.walk.tests.follow.Goals as goal
+use Rattle.cr_path_tests.proofs.walk.follow.Goals as goal
 
 pub go_to-requires : goal.go_to-requires
 go_to-requires c = (

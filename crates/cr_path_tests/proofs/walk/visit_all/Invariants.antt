@@ -1,5 +1,5 @@
 use Rattle.std.proofs.Common.{◌≡◌}
-use Rattle.cr_path.proofs.walk.tests.visit_all.Given as goal
+use Rattle.cr_path_tests.proofs.walk.visit_all.Given as goal
 
 abbrev pub invariant-loop : goal.invariant-loop
 invariant-loop l = record {

@@ -1,7 +1,7 @@
 use Rattle.std.proofs.Common.{length, ap, arith}
 use Rattle.cr_leads.specs.Tables.{leads_counted}
 use Rattle.cr_model.specs.Problems.{ProblemParts}
-use Rattle.cr_query.proofs.tests.add.Goals as goal
+use Rattle.cr_query_tests.proofs.tests.add.Goals as goal
 
 pub add_counted-requires-clause-step : goal.add_counted-requires-clause-step
 add_counted-requires-clause-step c =

@@ -3,7 +3,7 @@ use Rattle.std.proofs.lemmas.List.{map_more}
 use Rattle.cr_row.specs.Rows.{product}
 use Rattle.cr_model.specs.Problems.{PatternParts}
 use Rattle.cr_model.specs.Queries.{rows_fitting}
-use Rattle.cr_query.proofs.tests.fitting_in_all.Goals as goal
+use Rattle.cr_query_tests.proofs.tests.fitting_in_all.Goals as goal
 
 pub loop-index-preserved : goal.loop-index-preserved
 loop-index-preserved c =

@@ -2,7 +2,7 @@ use Rattle.std.proofs.Common.{◌<◌, length, sym, subst, arith}
 use Rattle.std.proofs.lemmas.List.Elements.{All-take}
 use Rattle.cr_leads.specs.Tables.{leads_counted, leads_known}
 use Rattle.cr_model.specs.Callings.{HasSteps}
-use Rattle.cr_query.proofs.tests.lead_to.Goals as goal
+use Rattle.cr_query_tests.proofs.tests.lead_to.Goals as goal
 
 pub head_after-head-requires : goal.head_after-head-requires
 head_after-head-requires c =

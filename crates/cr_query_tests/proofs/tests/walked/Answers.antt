@@ -3,7 +3,7 @@ use Rattle.cr_model.specs.Callings.{head_of}
 use Rattle.cr_model.specs.Sizes.{child}
 use Rattle.cr_query.specs.Meters.{MeterParts, meter_from, parent}
 use Rattle.cr_query.proofs.Moves.{parent_of_child}
-use Rattle.cr_query.proofs.tests.walked.Goals as goal
+use Rattle.cr_query_tests.proofs.tests.walked.Goals as goal
 
 pub back-requires-clause-head : goal.back-requires-clause-head
 back-requires-clause-head c =

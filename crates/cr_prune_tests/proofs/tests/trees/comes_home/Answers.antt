@@ -5,7 +5,7 @@ use Rattle.cr_model.specs.Callings.{head_of}
 use Rattle.cr_model.specs.Queries.{repeated}
 use Rattle.cr_prune.proofs.Limits.{head_long}
 use Rattle.cr_prune.proofs.Past.{repeated_on}
-use Rattle.cr_prune.proofs.tests.trees.comes_home.Goals as goal
+use Rattle.cr_prune_tests.proofs.tests.trees.comes_home.Goals as goal
 
 pub times-row-requires : goal.times-row-requires
 times-row-requires c =

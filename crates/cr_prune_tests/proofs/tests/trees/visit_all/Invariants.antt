@@ -1,5 +1,5 @@
 use Rattle.std.proofs.Common.{◌≡◌}
-use Rattle.cr_prune.proofs.tests.trees.visit_all.Given as goal
+use Rattle.cr_prune_tests.proofs.tests.trees.visit_all.Given as goal
 
 abbrev pub invariant-loop : goal.invariant-loop
 invariant-loop l = l.walk.problem ≡ l.problem
