@@ -3,8 +3,10 @@
 ghost use Rattle.std.specs.Prelude.{IsTrue, All, IfOk};
 ghost use Rattle.cr_model.specs.Callings.{HasSteps};
 
-use super::*;
-use crate::order::in_piles;
+use cr_book::{
+    CallingFault, book_text, book_text_by, calling_text, read_calling, sort_found, sort_found_by,
+    summary_text,
+};
 use cr_model::{Calling, Lead, Problem, Query, Step};
 use cr_row::{Change, Stage};
 use std::alloc::Global;
@@ -177,10 +179,6 @@ const THREE_RUNS: [&[u8]; 9] = [
 const THREE_SORTED: &str =
     "10 b\n20 bb\n30 ppp\n30 ppb\n30 pbp\n30 pbb\n40 ppbb\n40 pbpb\n40 bpbp\ntouches 9\n";
 
-// They are put on the first pile whose last calling is not after them.
-const THREE_PILES: &str =
-    "10 b\n40 bpbp\n20 bb\n30 ppp\n30 pbp\n40 pbpb\n30 pbb\n30 ppb\n40 ppbb\ntouches 9\n";
-
 const ONE_LENGTH: [&[u8]; 4] = [&[1, 0, 1], &[0, 1, 1], &[1, 0, 0], &[0, 0, 1]];
 
 const ONE_STEP: [&[u8]; 1] = [&[1]];
@@ -305,24 +303,6 @@ fn threads_print_as_one_does(rt: HostRuntime) -> Result<(), Fail> {
         let text = book_text_by(&rt, alloc, threads, &problem, &book)?;
         assert!(rt; text.as_slice() == wanted.as_slice());
     }
-    Ok(())
-}
-
-// Callings in their piles, one after another.
-fn piled_text(alloc: Global, problem: &Problem, rows: &[&[u8]]) -> Result<Vec<u8>, Fail> {
-    let piled = in_piles(alloc, callings_of(alloc, rows)?)?;
-    if !all_known(problem, &piled) {
-        return Err(Fail::from("the steps exist"));
-    }
-    Ok(book_text(alloc, problem, &piled)?)
-}
-
-#[test]
-fn alternating_runs_are_parted(rt: HostRuntime) -> Result<(), Fail> {
-    let alloc = rt.alloc();
-    let problem = problem_of(alloc, DOUBLES)?;
-    let text = piled_text(alloc, &problem, &THREE_RUNS)?;
-    assert!(rt; text.as_slice() == THREE_PILES.as_bytes());
     Ok(())
 }
 
