@@ -1,14 +1,19 @@
-ghost use Rattle.std.specs.Prelude.{◌≡◌, IfOk};
+ghost use Rattle.std.specs.Prelude.{◌≡◌, [], IfOk, IfSome};
+ghost use Rattle.cr_false.specs.Sets.{IsFalseTable};
+ghost use Rattle.cr_leads.specs.Tables.{lead_table};
+ghost use Rattle.cr_model.specs.Sizes.{most_rows};
+ghost use Rattle.cr_reach.specs.Tables.{reach_table};
 
-use super::*;
-use crate::tables::Tables;
+use cr_explore::{RowSearch, Search, WalkPath, make_search, take_turns};
 use cr_false::{Built, FalseTable};
 use cr_leads::LeadTable;
 use cr_model::Cell::Bell;
-use cr_model::{Cell, Com, Count, Lead, Pattern, Problem, Query, Step};
+use cr_model::{Calling, Cell, Com, Count, Lead, Pattern, Problem, Query, Step};
 use cr_node::laws::work_goes_on;
-use cr_node::{Done, Explorer, Node};
-use cr_row::{Change, Stage};
+use cr_node::{Explorer, Node};
+use cr_path::NumberTable;
+use cr_reach::ReachTable;
+use cr_row::{Change, NoMemory, Stage};
 use std::alloc::Global;
 use std::test::*;
 use std::thread::Threads;
@@ -158,79 +163,35 @@ fn problem(alloc: Global, draft: &Draft) -> Result<Problem, Fail> {
     }
 }
 
-// How a search looks for rows that come again: by their numbers, by the rows themselves, or by the falseness table.
+// How a search looks for rows that come again: by their numbers, as the choice of a search has it, by the rows
+// themselves, or by the falseness table.
 #[derive(Clone, Copy)]
 enum Way {
     Numbers,
+    Chosen,
     Rows,
     Table,
 }
 
 use Way::*;
 
-// The tables of a problem without numbers.
-fn without_numbers(alloc: Global, problem: &Problem) -> Result<Tables, Fail>
-    ensures { IfOk result (λ tables. tables ≡ problem.now) }
+// The rows that are few leads from rounds.
+fn reach_of(alloc: Global, problem: &Problem, leads: &LeadTable) -> Result<ReachTable, NoMemory>
+    requires { leads.now ≡ lead_table problem.now }
+    ensures { IfOk result (λ reach. reach ≡ reach_table problem.now most_rows) }
 {
-    let tables = Tables::with_room(alloc, problem, 0)?;
-    if tables.numbers.is_some() {
-        return Err(Fail::from("there are numbers"));
-    }
-    Ok(tables)
+    let reach = ReachTable::new(alloc, leads, 200_000)?;
+    Ok(reach)
 }
 
-// The search by numbers.
-fn numbered(alloc: Global, problem: &Problem) -> Result<RowSearch, Fail> {
-    let search = RowSearch::new(alloc, problem)?;
-    if search.tables.numbers.is_none() {
+// The search by numbers. Where those of a thousand heads have room, the search has them, since it has room for more.
+fn numbered(alloc: Global, problem: &Problem) -> Result<Search, Fail> {
+    let leads = LeadTable::new(alloc, problem)?;
+    let reach = reach_of(alloc, problem, &leads)?;
+    if NumberTable::new(alloc, problem, &leads, &reach, 1000)?.is_none() {
         return Err(Fail::from("there are no numbers"));
     }
-    Ok(search)
-}
-
-// The search that has a falseness table and no numbers, and asks the table.
-fn asking(
-    rt: &(impl AllocGlobal + Threads + Sync),
-    problem: &Problem,
-) -> Result<TableSearch, Fail> {
-    let alloc = rt.alloc();
-    let leads = LeadTable::new(alloc, problem)?;
-    match FalseTable::new(rt, alloc, &leads, 4_000_000)? {
-        Built::Table(table) => Ok(TableSearch {
-            tables: without_numbers(alloc, problem)?,
-            table,
-            asks_table: true,
-        }),
-        Built::Wide(_) => Err(Fail::from("the table has room")),
-    }
-}
-
-// A search that looks for rows that come again in one of the ways.
-fn search_by(
-    rt: &(impl AllocGlobal + Threads + Sync),
-    draft: &Draft,
-    way: Way,
-) -> Result<Search, Fail> {
-    let alloc = rt.alloc();
-    let problem = problem(alloc, draft)?;
-    let search = match way {
-        Numbers => Search::Rows(numbered(alloc, &problem)?),
-        Rows => {
-            let tables = without_numbers(alloc, &problem)?;
-            Search::Rows(RowSearch { tables })
-        }
-        Table => Search::Table(asking(rt, &problem)?),
-    };
-    Ok(search)
-}
-
-// The root, explored in so many turns.
-fn explored(alloc: Global, search: &Search, turns: u64) -> Result<Done, Fail> {
-    work_goes_on();
-    let _ = search.problem().stage();
-    let mut job = Vec::new(alloc);
-    job.push(Node::root(alloc))?;
-    Ok(search.explore(alloc, &job, turns)?)
+    Ok(Search::Rows(RowSearch::new(alloc, problem)?))
 }
 
 // Appends the marks of some steps, and a stroke.
@@ -245,34 +206,138 @@ fn write_marks(text: &mut Vec<u8>, draft: &Draft, steps: &[u8]) -> Result<(), Fa
     Ok(())
 }
 
-// What finished work found and what it left, as marks, each ended by a stroke, and the two by a bar.
-fn write_done(text: &mut Vec<u8>, draft: &Draft, done: &Done) -> Result<(), Fail> {
-    for touch in done.found() {
-        write_marks(text, draft, touch.steps())?;
+// What turns found and what they left, as marks, each ended by a stroke, and the two by a bar, and how many turns they
+// were: of several searches one after another.
+#[derive(Drop)]
+struct Told {
+    text: Vec<u8>,
+    used: Vec<u64>,
+}
+
+// Appends those of one search.
+fn write_told(
+    told: &mut Told,
+    draft: &Draft,
+    found: &[Calling],
+    rest: &[Node],
+    used: u64,
+) -> Result<(), Fail> {
+    for touch in found {
+        write_marks(&mut told.text, draft, touch.steps())?;
     }
-    text.push(b'|')?;
-    for node in done.rest() {
-        write_marks(text, draft, node.steps())?;
+    told.text.push(b'|')?;
+    for node in rest {
+        write_marks(&mut told.text, draft, node.steps())?;
     }
+    told.used.push(used)?;
     Ok(())
 }
 
-// What the root's exploration in so many turns found and left, and the turns that it used, if these are as many as are
-// wanted.
-fn told(
+// What a search finds and leaves of the root in so many turns.
+fn explore(
     alloc: Global,
+    told: &mut Told,
     draft: &Draft,
     search: &Search,
     turns: u64,
-    used: Option<u64>,
-) -> Result<Vec<u8>, Fail> {
-    let done = explored(alloc, search, turns)?;
-    let mut text = Vec::new(alloc);
-    write_done(&mut text, draft, &done)?;
-    if done.used() != used.unwrap_or(done.used()) {
-        return Err(Fail::from("so many turns are used"));
+) -> Result<(), Fail> {
+    work_goes_on();
+    let _ = search.problem().stage();
+    let mut job = Vec::new(alloc);
+    job.push(Node::root(alloc))?;
+    let done = search.explore(alloc, &job, turns)?;
+    write_told(told, draft, done.found(), done.rest(), done.used())
+}
+
+// The same in each of these numbers of turns.
+fn explored(alloc: Global, draft: &Draft, search: &Search, turns: &[u64]) -> Result<Told, Fail> {
+    let mut told = none_told(alloc);
+    for number in turns {
+        explore(alloc, &mut told, draft, search, *number)?;
     }
-    Ok(text)
+    Ok(told)
+}
+
+// Nothing of no search.
+fn none_told(alloc: Global) -> Told {
+    Told {
+        text: Vec::new(alloc),
+        used: Vec::new(alloc),
+    }
+}
+
+// What a search over the root finds and leaves in so many turns by a walk, which asks the falseness table, if there is
+// one, and else keeps the rows.
+fn walk(
+    alloc: Global,
+    told: &mut Told,
+    draft: &Draft,
+    path: &mut WalkPath,
+    turns: u64,
+) -> Result<(), Fail>
+    requires { path.old.node ≡ [] }
+{
+    work_goes_on();
+    let mut job = Vec::new(alloc);
+    job.push(Node::root(alloc))?;
+    let done = take_turns(alloc, path, &job, turns)?;
+    write_told(told, draft, &done.found, &done.rest, done.used)
+}
+
+// The same in each of these numbers of turns.
+fn walked(
+    alloc: Global,
+    draft: &Draft,
+    problem: &Problem,
+    leads: &LeadTable,
+    table: Option<&FalseTable>,
+    turns: &[u64],
+) -> Result<Told, Fail>
+    requires leads { leads.now ≡ lead_table problem.now }
+    requires table { IfSome table (λ t. IsFalseTable leads.now t.now) }
+{
+    let mut told = none_told(alloc);
+    let reach = reach_of(alloc, problem, leads)?;
+    for number in turns {
+        let mut path = WalkPath::new(alloc, problem, leads, &reach, table)?;
+        walk(alloc, &mut told, draft, &mut path, *number)?;
+    }
+    Ok(told)
+}
+
+// The same where the walk asks the falseness table.
+fn asked(
+    rt: &(impl AllocGlobal + Threads + Sync),
+    draft: &Draft,
+    problem: &Problem,
+    leads: &LeadTable,
+    turns: &[u64],
+) -> Result<Told, Fail>
+    requires { leads.now ≡ lead_table problem.now }
+{
+    let alloc = rt.alloc();
+    match FalseTable::new(rt, alloc, leads, 4_000_000)? {
+        Built::Table(table) => walked(alloc, draft, problem, leads, Some(&table), turns),
+        Built::Wide(_) => Err(Fail::from("the table has room")),
+    }
+}
+
+// What is found and left in so many turns in one of the ways.
+fn tell(
+    rt: &(impl AllocGlobal + Threads + Sync),
+    draft: &Draft,
+    way: Way,
+    turns: &[u64],
+) -> Result<Told, Fail> {
+    let alloc = rt.alloc();
+    let problem = problem(alloc, draft)?;
+    let leads = LeadTable::new(alloc, &problem)?;
+    match way {
+        Numbers => explored(alloc, draft, &numbered(alloc, &problem)?, turns),
+        Chosen => explored(alloc, draft, &make_search(rt, alloc, &problem)?, turns),
+        Rows => walked(alloc, draft, &problem, &leads, None, turns),
+        Table => asked(rt, draft, &problem, &leads, turns),
+    }
 }
 
 // The problem, the turns, what is found and what is left, and the turns that are used.
@@ -321,10 +386,9 @@ const CASES: [Case; 14] = [
 
 // A case in one of the ways.
 fn check(rt: &(impl AllocGlobal + Threads + Sync), case: Case, way: Way) -> Result<(), Fail> {
-    let (name, draft, turns, wanted, used) = case;
-    let search = search_by(rt, &draft, way)?;
-    let text = told(rt.alloc(), &draft, &search, turns, Some(used))?;
-    if text.as_slice() == wanted {
+    let (name, draft, turns, wanted, wanted_used) = case;
+    let told = tell(rt, &draft, way, &[turns])?;
+    if told.text.as_slice() == wanted && told.used.as_slice() == [wanted_used].as_slice() {
         Ok(())
     } else {
         Err(Fail::from(name))
@@ -334,9 +398,9 @@ fn check(rt: &(impl AllocGlobal + Threads + Sync), case: Case, way: Way) -> Resu
 #[test]
 fn turns_on_the_root(rt: HostRuntime) -> Result<(), Fail> {
     for case in CASES {
-        check(&rt, case, Numbers)?;
-        check(&rt, case, Rows)?;
-        check(&rt, case, Table)?;
+        for way in [Numbers, Chosen, Rows, Table] {
+            check(&rt, case, way)?;
+        }
     }
     Ok(())
 }
@@ -409,40 +473,27 @@ const ASKED: [Asked; 11] = [
     (1, 11, 1, &[], Some((b'b', 0)), None),
 ];
 
-// Ok where two searches find and leave the same in so many turns.
-fn agree(
-    alloc: Global,
+// How many turns the ways take side by side.
+const TURNS: [u64; 3] = [1, 9, 300];
+
+// Ok where a way finds and leaves the same.
+fn agrees(
+    rt: &(impl AllocGlobal + Threads + Sync),
     draft: &Draft,
-    one: &Search,
-    other: &Search,
-    turns: u64,
+    rows: &Told,
+    way: Way,
 ) -> Result<(), Fail> {
-    let text = told(alloc, draft, one, turns, None)?;
-    let other_text = told(alloc, draft, other, turns, None)?;
-    if text.as_slice() == other_text.as_slice() {
+    let other = tell(rt, draft, way, &TURNS)?;
+    if other.text == rows.text && other.used == rows.used {
         Ok(())
     } else {
         Err(Fail::from("two ways find or leave another"))
     }
 }
 
-// Ok where a way finds and leaves the same as rung leads do.
-fn agrees(
-    rt: &(impl AllocGlobal + Threads + Sync),
-    draft: &Draft,
-    rows: &Search,
-    way: Way,
-) -> Result<(), Fail> {
-    let other = search_by(rt, draft, way)?;
-    for turns in [1, 9, 300] {
-        agree(rt.alloc(), draft, rows, &other, turns)?;
-    }
-    Ok(())
-}
-
-// Ok where all three ways find and leave the same.
+// Ok where all ways find and leave the same as rung leads do.
 fn all_agree(rt: &(impl AllocGlobal + Threads + Sync), draft: &Draft) -> Result<(), Fail> {
-    let rows = search_by(rt, draft, Rows)?;
+    let rows = tell(rt, draft, Rows, &TURNS)?;
     agrees(rt, draft, &rows, Numbers)?;
     agrees(rt, draft, &rows, Table)
 }

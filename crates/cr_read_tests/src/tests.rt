@@ -1,5 +1,5 @@
-use super::*;
 use cr_model::{Cell, Problem, ProblemFault, Query};
+use cr_read::read_problem;
 use cr_row::{Change, symbol};
 use std::alloc::{AllocError, Global};
 use std::test::*;

@@ -3,7 +3,6 @@
 ghost use Rattle.std.specs.Prelude.{◌≡◌, ◌<◌, [], vec_len, All};
 
 use crate::fault_tests::has_all;
-use crate::start::start_of;
 use crate::stop_tests::{DOUBLES, MINIMUS, checkpoint};
 use cr_board::{Board, Entry, Opening};
 use cr_desk::{Desk, Seat};
@@ -11,6 +10,7 @@ use cr_explore::RowSearch;
 use cr_node::Explorer;
 use cr_read::read_problem;
 use cr_row::NoMemory;
+use cr_store::read_checkpoint;
 use std::alloc::Global;
 use std::marker::Brand;
 use std::sync::Wait;
@@ -22,8 +22,8 @@ use std::thread::Threads;
 // Plain Bob Doubles after one turn, for one worker: job 0 is the node `b`, and job 1 the node `p`.
 fn both_jobs(alloc: Global) -> Result<Opening, Fail> {
     let input = checkpoint(alloc, "2", "found 0\njobs 2\njob 1\n0 b\njob 1\n0 p\nend\n")?;
-    match start_of(alloc, input.as_bytes().to_vec(alloc)?) {
-        Ok(start) => Ok(Opening::new(start.problem, start.left.found, start.left.jobs, None, 1)),
+    match read_checkpoint(alloc, input.as_bytes()) {
+        Ok(left) => Ok(Opening::new(left.problem, left.found, left.jobs, None, 1)),
         Err(_) => Err(Fail::from("it is a checkpoint")),
     }
 }

@@ -1,11 +1,11 @@
 //! What no clause says of notes: each line as it is printed, and lines that a fault ends.
 
-use crate::Status::{self, Checkpoint, Problem, Words};
-use crate::notes::write_note;
 use cr_io::{MemSink, SureSink};
 use cr_model::ProblemFault::*;
 use cr_model::{CountAt, KeyPath, NotationFault, Whose};
 use cr_store::CheckFault;
+use cr_top::Status::{self, Checkpoint, Problem, Words};
+use cr_top::write_note;
 use cr_words::WordsFault::{self, Line, Mixed, Mode, Number, Turns, Workers};
 use std::test::Fail;
 

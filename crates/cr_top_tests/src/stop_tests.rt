@@ -1,7 +1,5 @@
 //! What no clause says: runs that stop, checkpoints that are read, and chains of them, with ample memory.
 
-use super::OpenGate;
-use crate::searching::text_for;
 use crate::test_calls::{Ending, answered, check, ends};
 use std::alloc::Global;
 use std::sync::Wait;
@@ -259,36 +257,4 @@ fn fronts_of_a_checkpoint(rt: HostRuntime) -> Result<(), Fail> {
         "version 3",
         ends(&rt, &[], b"ringsearch checkpoint 3\n", unknown)?,
     )
-}
-
-// The turns that are allowed, and how many more are needed after boards of ten turns each.
-const BOARDS: [(u64, &str, &str); 3] = [(25, "6", "7"), (10, "21", "22"), (0, "31", "32")];
-
-// The text of a search of Plain Bob Doubles on boards of ten turns each.
-fn dealt<R: AllocGlobal + Threads + Wait + Sync>(
-    rt: &R,
-    turns: Option<u64>,
-) -> Result<Vec<u8>, Fail> {
-    let alloc = rt.alloc();
-    let input = DOUBLES.as_bytes().to_vec(alloc)?;
-    match text_for(rt, 1, input, turns, &OpenGate, 10) {
-        Ok(outcome) => Ok(outcome.text),
-        Err(_) => Err(Fail::from("no text")),
-    }
-}
-
-#[test]
-fn boards_follow_one_another(rt: HostRuntime) -> Result<(), Fail> {
-    let book = dealt(&rt, None)?;
-    check("book", book.as_slice() == ALL_DOUBLES.as_bytes())?;
-    for (turns, few, enough) in BOARDS {
-        let text = dealt(&rt, Some(turns))?;
-        check(
-            "enough",
-            ends(&rt, &["--turns", enough], &text, (0, ALL_DOUBLES, ""))?,
-        )?;
-        let (code, _) = answered(&rt, &["--turns", few], &text)?;
-        check("few", code == 3)?;
-    }
-    Ok(())
 }

@@ -2,8 +2,8 @@
 
 ghost use Rattle.std.specs.Prelude.{◌≤◌};
 
-use super::{OpenGate, ringsearch};
 use cr_io::{MemSink, MemSource, SureSink, SureSource};
+use cr_top::{OpenGate, ringsearch};
 use std::alloc::{AllocError, Global};
 use std::sync::Wait;
 use std::test::Fail;

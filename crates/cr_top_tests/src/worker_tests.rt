@@ -1,9 +1,9 @@
 //! What no clause says: that workers search side by side, with ample memory.
 
-use super::{Gate, ringsearch};
 use crate::stop_tests::{ALL_DOUBLES, DOUBLES, MINIMUS, checkpoint};
 use crate::test_calls::{answered, check, words_of};
 use cr_io::{SureSink, SureSource};
+use cr_top::{Gate, ringsearch};
 use std::sync::atomic::Ordering::SeqCst;
 use std::sync::atomic::{AtomicBool, AtomicU64};
 use std::test::Fail;
