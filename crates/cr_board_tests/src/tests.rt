@@ -1,2 +1,3 @@
 mod hunter;
+mod node_lists;
 mod scripts;

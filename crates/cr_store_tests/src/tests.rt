@@ -3,21 +3,21 @@
 ghost use Rattle.std.specs.Prelude.{◌≡◌, IfOk, OnOk};
 ghost use Rattle.cr_model.specs.ProblemFiles.{ProblemFile};
 
-use super::*;
 use cr_board::{Board, Opening};
+use cr_store::{CheckFault, Checkpoint, left_of, read_checkpoint, write_checkpoint, write_parts};
 use std::alloc::Global;
 use std::test::Fail;
 
-// Plain Bob Doubles, of 124 bytes.
-const DOUBLES: &str =
+/// Plain Bob Doubles, of 124 bytes.
+pub const DOUBLES: &str =
     "stage = 5\n[[method]]\nletter = \"A\"\nnotation = \"5.1.5.1.5,125\"\n[[call]]\nmark = \"b\"\nnotation = \"145\"\n[query]\nmin = 1\nmax = 120\n";
 
 // The same, of which touches have two parts: 134 bytes.
 const PARTS: &str =
     "stage = 5\n[[method]]\nletter = \"A\"\nnotation = \"5.1.5.1.5,125\"\n[[call]]\nmark = \"b\"\nnotation = \"145\"\n[query]\nmin = 1\nmax = 120\nparts = 2\n";
 
-// The text of a checkpoint from its version, its problem, whose length is told, and its last lines.
-fn text_of(
+/// The text of a checkpoint from its version, its problem, whose length is told, and its last lines.
+pub fn text_of(
     alloc: Global,
     version: &str,
     length: &str,
@@ -40,8 +40,10 @@ fn text_of(
     Ok(text)
 }
 
-// The number of a fault, and its lines.
-fn told(fault: CheckFault) -> (u8, u64, u64) {
+/// The number of a fault, and its lines.
+pub type Told = (u8, u64, u64);
+
+fn told(fault: CheckFault) -> Told {
     match fault {
         CheckFault::Form(line) => (1, line, 0),
         CheckFault::Problem(_) => (2, 0, 0),
@@ -51,6 +53,14 @@ fn told(fault: CheckFault) -> (u8, u64, u64) {
         CheckFault::FoundOrder(line) => (6, line, 0),
         CheckFault::Overlap(line, other) => (7, line, other),
         CheckFault::NoMemory => (8, 0, 0),
+    }
+}
+
+/// Why a text is no checkpoint, if it is none.
+pub fn fault_of(alloc: Global, text: &[u8]) -> Option<Told> {
+    match read_checkpoint(alloc, text) {
+        Ok(_) => None,
+        Err(fault) => Some(told(fault)),
     }
 }
 
@@ -71,7 +81,7 @@ type Case = (
     &'static str,
     &'static str,
     &'static str,
-    Result<&'static str, (u8, u64, u64)>,
+    Result<&'static str, Told>,
 );
 
 const CASES: [Case; 16] = [
@@ -174,7 +184,7 @@ const CASES: [Case; 16] = [
 ];
 
 // Last lines of version 2 alone.
-const SHARES: [(&str, &str, (u8, u64, u64)); 5] = [
+const SHARES: [(&str, &str, Told); 5] = [
     (
         "a first node that shares",
         "found 0\njobs 1\njob 1\n1 b\nend\n",
@@ -207,7 +217,7 @@ fn is_as_wanted(
     alloc: Global,
     version: &str,
     lines: &str,
-    want: Result<&str, (u8, u64, u64)>,
+    want: Result<&str, Told>,
 ) -> Result<bool, Fail> {
     let text = text_of(alloc, version, "124", DOUBLES, lines)?;
     match (written_again(alloc, &text), want) {
@@ -245,12 +255,7 @@ const LENGTHS: [(&str, usize); 4] = [
 ];
 
 // The number of the problem's bytes, the problem, the last lines of version 2, and the fault, if there is one.
-type Other = (
-    &'static str,
-    &'static str,
-    &'static str,
-    Option<(u8, u64, u64)>,
-);
+type Other = (&'static str, &'static str, &'static str, Option<Told>);
 
 const OTHERS: [Other; 6] = [
     ("0", "", "found 0\njobs 0\nend\n", Some((2, 0, 0))),
@@ -279,11 +284,7 @@ fn other_problems(rt: HostRuntime) -> Result<(), Fail> {
     }
     for (length, problem, lines, want) in OTHERS {
         let text = text_of(alloc, "2", length, problem, lines)?;
-        let fault = match read_checkpoint(alloc, &text) {
-            Ok(_) => None,
-            Err(fault) => Some(told(fault)),
-        };
-        if fault != want {
+        if fault_of(alloc, &text) != want {
             return Err(Fail::from(lines));
         }
     }
@@ -307,7 +308,7 @@ fn plain_nodes(alloc: Global, nodes: &[(&str, usize)]) -> Result<String, Fail> {
 }
 
 // A node of 1,025 leads is no node, in whatever lines it stands; one of 1,024 is a long node.
-const LONG: [(&str, &[(&str, usize)], (u8, u64, u64)); 5] = [
+const LONG: [(&str, &[(&str, usize)], Told); 5] = [
     ("1", &[("", 1024)], (4, 17, 0)),
     ("1", &[("", 1025)], (3, 17, 0)),
     ("2", &[("0 ", 1025)], (3, 17, 0)),

@@ -6,8 +6,8 @@ ghost use Rattle.cr_node.specs.Work.{IsJob};
 ghost use Rattle.cr_board.specs.Boards.{opened};
 ghost use Rattle.cr_board.specs.Examples.{on_three, hunt, hunts, two_jobs};
 
-use crate::copies::copy_nodes;
-use crate::{Board, Opening};
+use super::node_lists::copy_nodes;
+use cr_board::{Board, Opening};
 use cr_model::laws::{a_split_among_others, one_turn_splits_a_node, sizes_are_sums};
 use cr_model::{Calling, Lead, Problem, Query, Step};
 use cr_node::laws::work_goes_on;

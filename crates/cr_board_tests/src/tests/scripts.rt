@@ -4,9 +4,8 @@ ghost use Rattle.std.specs.Prelude.{◌≡◌};
 ghost use Rattle.cr_board.specs.Examples.{hunts};
 
 use super::hunter::*;
-use crate::copies::copy_nodes;
-use crate::same::same_nodes;
-use crate::{Board, Claimed, Entry, Event, Handed, Opening, Taken};
+use super::node_lists::same_nodes;
+use cr_board::{Board, Claimed, Entry, Event, Handed, Opening, Taken};
 use cr_node::{Done, Explorer, Node};
 use std::alloc::Global;
 use std::mem;

@@ -1,7 +1,7 @@
 use Rattle.std.proofs.Common.{sym, subst, arith}
 use Rattle.cr_board.specs.Jobs.{IsOpening, opening_from}
 use Rattle.cr_board.proofs.Openings.{one_job_opens}
-use Rattle.cr_board.proofs.tests.hunter.board_of_one.Goals as goal
+use Rattle.cr_board_tests.proofs.tests.hunter.board_of_one.Goals as goal
 
 pub new-opening-requires : goal.new-opening-requires
 new-opening-requires c =

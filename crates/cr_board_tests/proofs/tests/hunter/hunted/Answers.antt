@@ -1,7 +1,7 @@
 use Rattle.std.proofs.Common.{[], ◌∷◌, ◌∙◌, subst}
 use Rattle.cr_model.specs.Sound.{IsSound}
 use Rattle.cr_board.proofs.Hunts.{hunted, done_of}
-use Rattle.cr_board.proofs.tests.hunter.hunted.Goals as goal
+use Rattle.cr_board_tests.proofs.tests.hunter.hunted.Goals as goal
 
 pub new-requires : goal.new-requires
 new-requires c = done_of c.in_ok-problem.problem c.in_ok-job.job.items c.in_ok-found.found.items c.new-rest.result.items ((c.args.step ∷ []) ∷ []) ((c.args.step ∷ []) ∷ [])
