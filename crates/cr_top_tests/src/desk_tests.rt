@@ -102,7 +102,7 @@ fn worked_by<R: AllocGlobal + Threads + Wait + Sync>(rt: &R, file: &str) -> Resu
 
 // The root has size 32. The node `b` has the one child `bb`, which is a touch, and no more below it; so below `p` there
 // are 29 turns with the other four touches.
-const JOURNAL: [Entry; 4] = [
+const JOURNAL: &[Entry] = &[
     Entry::Take {
         worker: 0,
         lane: 0,

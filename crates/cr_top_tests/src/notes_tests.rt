@@ -18,7 +18,7 @@ fn holds(line: &'static str, note: Option<&[u8]>) -> Result<(), Fail> {
     }
 }
 
-const STATUSES: [(Status, u8, &str); 16] = [
+const STATUSES: &[(Status, u8, &str)] = &[
     (Status::Finished, 0, ""),
     (Words(Line), 2, "ringsearch: words 1 Line\n"),
     (Words(Workers), 2, "ringsearch: words 2 Workers\n"),
@@ -51,7 +51,7 @@ const STATUSES: [(Status, u8, &str); 16] = [
 
 #[test]
 fn each_status_has_its_number_and_its_line(rt: HostRuntime) -> Result<(), Fail> {
-    for (status, code, line) in &STATUSES {
+    for (status, code, line) in STATUSES {
         if status.code() != *code {
             return Err(Fail::from(*line));
         }
@@ -62,7 +62,7 @@ fn each_status_has_its_number_and_its_line(rt: HostRuntime) -> Result<(), Fail> 
     Ok(())
 }
 
-const FAULTS: [(Status, &str); 39] = [
+const FAULTS: &[(Status, &str)] = &[
     (Problem(Stage(17)), "ringsearch: problem 3 Stage 17\n"),
     (Problem(Stage(-10)), "ringsearch: problem 3 Stage -10\n"),
     (Problem(Letter(1)), "ringsearch: problem 4 Letter 1\n"),
@@ -181,7 +181,7 @@ const FAULTS: [(Status, &str); 39] = [
 
 #[test]
 fn each_fault_has_its_details(rt: HostRuntime) -> Result<(), Fail> {
-    for (status, line) in &FAULTS {
+    for (status, line) in FAULTS {
         let mut notes = SureSink::new(rt.alloc());
         write_note(&mut notes, status);
         holds(line, notes.bytes())?;
@@ -189,7 +189,7 @@ fn each_fault_has_its_details(rt: HostRuntime) -> Result<(), Fail> {
     Ok(())
 }
 
-const PATHS: [(&[u8], &str); 4] = [
+const PATHS: &[(&[u8], &str)] = &[
     (b"stage", "ringsearch: problem 2 Key stage\n"),
     (b"", "ringsearch: problem 2 Key \n"),
     (
@@ -204,7 +204,7 @@ const PATHS: [(&[u8], &str); 4] = [
 
 #[test]
 fn paths_are_shown(rt: HostRuntime) -> Result<(), Fail> {
-    for (path, line) in PATHS {
+    for &(path, line) in PATHS {
         let bytes = Vec::from_slice(rt.alloc(), path)?;
         let mut notes = SureSink::new(rt.alloc());
         write_note(&mut notes, &Problem(Key(KeyPath { bytes })));
@@ -215,7 +215,7 @@ fn paths_are_shown(rt: HostRuntime) -> Result<(), Fail> {
 
 // Which write fails, how many bytes a write takes, and what was written before: the pieces of the line are its head,
 // the word of its status, the fault's name, its number, and the line feed.
-const BROKEN: [(u64, u64, &str); 8] = [
+const BROKEN: &[(u64, u64, &str)] = &[
     (1, 100, ""),
     (1, 3, ""),
     (2, 3, "rin"),
@@ -229,7 +229,7 @@ const BROKEN: [(u64, u64, &str); 8] = [
 #[test]
 fn a_fault_ends_the_line(rt: HostRuntime) -> Result<(), Fail> {
     let alloc = rt.alloc();
-    for (fail, most, written) in BROKEN {
+    for &(fail, most, written) in BROKEN {
         let mut notes = MemSink::new(alloc, Vec::from_slice(alloc, &[fail])?, most);
         write_note(&mut notes, &Problem(Stage(17)));
         holds(written, notes.bytes())?;
