@@ -134,7 +134,7 @@ const JOURNAL: &[Entry] = &[
 #[test]
 fn a_worker_goes_on_to_the_last_job(rt: HostRuntime) -> Result<(), Fail> {
     let board = worked_by(&rt, DOUBLES)?;
-    assert!(rt; board.journal() == JOURNAL.as_slice());
+    assert!(rt; board.journal() == JOURNAL);
     assert!(rt; board.is_done() && has_all(&board));
     Ok(())
 }

@@ -220,7 +220,7 @@ fn both_found(board: &Board) -> bool {
     let [first, second] = board.found() else {
         return false;
     };
-    board.journal() == JOURNAL.as_slice()
+    board.journal() == JOURNAL
         && board.is_done()
         && board.spent() == 2
         && first.steps() == [0].as_slice()
