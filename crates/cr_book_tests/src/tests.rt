@@ -398,11 +398,11 @@ fn callings_are_read_back(rt: HostRuntime) -> Result<(), Fail> {
     let alloc = rt.alloc();
     let doubles = problem_of(alloc, DOUBLES)?;
     for reading in OF_ONE {
-        read_back(alloc, &doubles, reading)?;
+        read_back(alloc, &doubles, *reading)?;
     }
     let spliced = problem_of(alloc, SPLICED)?;
     for reading in OF_SEVERAL {
-        read_back(alloc, &spliced, reading)?;
+        read_back(alloc, &spliced, *reading)?;
     }
     Ok(())
 }

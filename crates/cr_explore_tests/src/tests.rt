@@ -399,7 +399,7 @@ fn check(rt: &(impl AllocGlobal + Threads + Sync), case: Case, way: Way) -> Resu
 fn turns_on_the_root(rt: HostRuntime) -> Result<(), Fail> {
     for case in CASES {
         for way in [Numbers, Chosen, Rows, Table] {
-            check(&rt, case, way)?;
+            check(&rt, *case, way)?;
         }
     }
     Ok(())

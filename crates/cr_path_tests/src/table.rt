@@ -178,7 +178,7 @@ const TABLES: &[Wanted] = &[
 ];
 
 #[test]
-fn heads_and_telling_rows_are_counted(rt: HostRuntime) -> Result<(), Fail> {
+fn heads_are_counted(rt: HostRuntime) -> Result<(), Fail> {
     for &(name, draft, most_heads, wanted) in TABLES {
         if width(rt.alloc(), &draft, most_heads)? != wanted {
             return Err(Fail::from(name));

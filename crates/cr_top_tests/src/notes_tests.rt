@@ -18,7 +18,7 @@ fn holds(line: &'static str, note: Option<&[u8]>) -> Result<(), Fail> {
     }
 }
 
-const STATUSES: &[(Status, u8, &str)] = &[
+const STATUSES: [(Status, u8, &str); 16] = [
     (Status::Finished, 0, ""),
     (Words(Line), 2, "ringsearch: words 1 Line\n"),
     (Words(Workers), 2, "ringsearch: words 2 Workers\n"),
@@ -51,7 +51,7 @@ const STATUSES: &[(Status, u8, &str)] = &[
 
 #[test]
 fn each_status_has_its_number_and_its_line(rt: HostRuntime) -> Result<(), Fail> {
-    for (status, code, line) in STATUSES {
+    for (status, code, line) in &STATUSES {
         if status.code() != *code {
             return Err(Fail::from(*line));
         }
@@ -62,7 +62,7 @@ fn each_status_has_its_number_and_its_line(rt: HostRuntime) -> Result<(), Fail> 
     Ok(())
 }
 
-const FAULTS: &[(Status, &str)] = &[
+const FAULTS: [(Status, &str); 39] = [
     (Problem(Stage(17)), "ringsearch: problem 3 Stage 17\n"),
     (Problem(Stage(-10)), "ringsearch: problem 3 Stage -10\n"),
     (Problem(Letter(1)), "ringsearch: problem 4 Letter 1\n"),
@@ -181,7 +181,7 @@ const FAULTS: &[(Status, &str)] = &[
 
 #[test]
 fn each_fault_has_its_details(rt: HostRuntime) -> Result<(), Fail> {
-    for (status, line) in FAULTS {
+    for (status, line) in &FAULTS {
         let mut notes = SureSink::new(rt.alloc());
         write_note(&mut notes, status);
         holds(line, notes.bytes())?;
