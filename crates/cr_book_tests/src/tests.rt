@@ -186,7 +186,7 @@ const ONE_STEP: [&[u8]; 1] = [&[1]];
 const TWICE: [&[u8]; 3] = [&[1, 1], &[0], &[1, 1]];
 
 // The callings as they were found, and the book of them.
-const SORTINGS: [(&[&[u8]], &str); 9] = [
+const SORTINGS: &[(&[&[u8]], &str)] = &[
     (&IN_ORDER, SORTED),
     (&IN_REVERSE, SORTED),
     (&TWO_RUNS, SORTED),
@@ -198,7 +198,7 @@ const SORTINGS: [(&[&[u8]], &str); 9] = [
     (&[], "touches 0\n"),
 ];
 
-const BOOK: [&[u8]; 5] = [
+const BOOK: &[&[u8]] = &[
     &[1, 1],
     &[0, 0, 0, 0],
     &[0, 1, 0, 1, 0, 1],
@@ -225,7 +225,7 @@ fn sorted_text(alloc: Global, problem: &Problem, rows: &[&[u8]]) -> Result<Vec<u
 fn found_touches_are_sorted(rt: HostRuntime) -> Result<(), Fail> {
     let alloc = rt.alloc();
     let problem = problem_of(alloc, DOUBLES)?;
-    for (rows, want) in SORTINGS {
+    for &(rows, want) in SORTINGS {
         let text = sorted_text(alloc, &problem, rows)?;
         if text.as_slice() != want.as_bytes() {
             return Err(Fail::from(want));
@@ -310,7 +310,7 @@ fn threads_print_as_one_does(rt: HostRuntime) -> Result<(), Fail> {
 fn a_book_is_printed(rt: HostRuntime) -> Result<(), Fail> {
     let alloc = rt.alloc();
     let problem = problem_of(alloc, DOUBLES)?;
-    let book = callings_of(alloc, &BOOK)?;
+    let book = callings_of(alloc, BOOK)?;
     if !all_known(&problem, &book) {
         return Err(Fail::from("the steps exist"));
     }
@@ -319,7 +319,7 @@ fn a_book_is_printed(rt: HostRuntime) -> Result<(), Fail> {
     Ok(())
 }
 
-const TOUCHES: [&[u8]; 9] = [
+const TOUCHES: &[&[u8]] = &[
     &[1, 1, 1],
     &[1, 2, 2],
     &[0, 0, 0, 0, 0],
@@ -334,7 +334,7 @@ const TOUCHES: [&[u8]; 9] = [
 // The touches, and their summary.
 const SUMMARIES: [(&[&[u8]], &str); 2] = [
     (
-        &TOUCHES,
+        TOUCHES,
         "plain bob minor 1 to 72\ntouches 9\nlongest 72\n36 2\n60 1\n72 6\n",
     ),
     (&[], "plain bob minor 1 to 72\ntouches 0\nlongest 0\n"),
@@ -360,7 +360,7 @@ fn summaries(rt: HostRuntime) -> Result<(), Fail> {
 // Which case it is, the text, and its steps, or the place of the first byte that cannot be.
 type Reading = (&'static str, &'static [u8], Result<&'static [u8], u64>);
 
-const OF_ONE: [Reading; 5] = [
+const OF_ONE: &[Reading] = &[
     ("the plain course", b"pppp", Ok(&[0, 0, 0, 0])),
     ("plain and bob", b"ppb", Ok(&[0, 0, 1])),
     ("the empty text", b"", Err(0)),
@@ -368,7 +368,7 @@ const OF_ONE: [Reading; 5] = [
     ("a letter that is not printed", b"Ap", Err(0)),
 ];
 
-const OF_SEVERAL: [Reading; 8] = [
+const OF_SEVERAL: &[Reading] = &[
     ("spliced", b"KpXpXbKp", Ok(&[2, 0, 1, 2])),
     ("a letter without mark", b"XpK", Err(3)),
     ("a mark without letter", b"Xpp", Err(2)),
@@ -398,11 +398,11 @@ fn callings_are_read_back(rt: HostRuntime) -> Result<(), Fail> {
     let alloc = rt.alloc();
     let doubles = problem_of(alloc, DOUBLES)?;
     for reading in OF_ONE {
-        read_back(alloc, &doubles, reading)?;
+        read_back(alloc, &doubles, *reading)?;
     }
     let spliced = problem_of(alloc, SPLICED)?;
     for reading in OF_SEVERAL {
-        read_back(alloc, &spliced, reading)?;
+        read_back(alloc, &spliced, *reading)?;
     }
     Ok(())
 }
@@ -421,7 +421,7 @@ fn callings_have_1024_steps_at_most(rt: HostRuntime) -> Result<(), Fail> {
 }
 
 // Which steps are rung, and the calling's text.
-const CALLINGS: [(&[u8], &str); 4] = [
+const CALLINGS: &[(&[u8], &str)] = &[
     (&[], ""),
     (&[0], "Xp"),
     (&[2, 0, 1, 2], "KpXpXbKp"),
@@ -431,7 +431,7 @@ const CALLINGS: [(&[u8], &str); 4] = [
 #[test]
 fn texts_of_several_steps(rt: HostRuntime) -> Result<(), Fail> {
     let problem = problem_of(rt.alloc(), SPLICED)?;
-    for (steps, want) in CALLINGS {
+    for &(steps, want) in CALLINGS {
         if !problem.has_steps(steps) {
             return Err(Fail::from(want));
         }

@@ -343,7 +343,7 @@ fn tell(
 // The problem, the turns, what is found and what is left, and the turns that are used.
 type Case = (&'static str, Draft, u64, &'static [u8], u64);
 
-const CASES: [Case; 14] = [
+const CASES: &[Case] = &[
     ("no turn", DOUBLES, 0, b"|/", 0),
     ("one turn", DOUBLES, 1, b"|b/p/", 1),
     ("two turns", DOUBLES, 2, b"|b/pb/pp/", 2),
@@ -399,7 +399,7 @@ fn check(rt: &(impl AllocGlobal + Threads + Sync), case: Case, way: Way) -> Resu
 fn turns_on_the_root(rt: HostRuntime) -> Result<(), Fail> {
     for case in CASES {
         for way in [Numbers, Chosen, Rows, Table] {
-            check(&rt, case, way)?;
+            check(&rt, *case, way)?;
         }
     }
     Ok(())
@@ -432,7 +432,7 @@ const SPLICED: &[(u8, &[u8])] = &[
 const HUNTS: &[(u8, &[u8])] = &[(b'p', b"3.1.3.1.3.1"), (b'b', b"3.1"), (b's', b"1.3")];
 
 // Stages and leads, none of them symmetric throughout.
-const METHODS: [(u8, &[(u8, &[u8])]); 6] = [
+const METHODS: &[(u8, &[(u8, &[u8])])] = &[
     (3, HUNTS),
     (4, SHORT_CALL),
     (4, SPLICED),
@@ -452,7 +452,7 @@ type Asked = (
     Option<i64>,
 );
 
-const ASKED: [Asked; 11] = [
+const ASKED: &[Asked] = &[
     (1, 120, 1, &[], None, None),
     (1, 72, 1, &[Bell(1), Bell(3), Cell::Run], None, None),
     (
@@ -500,8 +500,8 @@ fn all_agree(rt: &(impl AllocGlobal + Threads + Sync), draft: &Draft) -> Result<
 
 #[test]
 fn all_ways_are_one(rt: HostRuntime) -> Result<(), Fail> {
-    for (stage, leads) in METHODS {
-        for (min, max, parts, cells, count, com) in ASKED {
+    for &(stage, leads) in METHODS {
+        for &(min, max, parts, cells, count, com) in ASKED {
             let draft = Draft {
                 stage,
                 leads,

@@ -165,7 +165,7 @@ type Wanted = (&'static str, Draft, u64, Option<usize>);
 // stand in the same leads, those that are rung from its head and from its last row but one, and each of the last two in
 // leads that have no other row in common: a lead has three telling rows. Of the leads of four changes no row stands in
 // all leads in which another of its lead does, so that each has four.
-const TABLES: [Wanted; 9] = [
+const TABLES: &[Wanted] = &[
     ("Minimus", MINIMUS, 3, Some(2)),
     ("Minimus in two heads", MINIMUS, 2, None),
     ("Fours", FOURS, 24, Some(4)),
@@ -178,8 +178,8 @@ const TABLES: [Wanted; 9] = [
 ];
 
 #[test]
-fn heads_and_telling_rows_are_counted(rt: HostRuntime) -> Result<(), Fail> {
-    for (name, draft, most_heads, wanted) in TABLES {
+fn heads_are_counted(rt: HostRuntime) -> Result<(), Fail> {
+    for &(name, draft, most_heads, wanted) in TABLES {
         if width(rt.alloc(), &draft, most_heads)? != wanted {
             return Err(Fail::from(name));
         }

@@ -263,7 +263,7 @@ fn live_nodes(alloc: Global, draft: &Draft) -> Result<u64, Fail> {
 }
 
 // As many as the turns that a whole search takes.
-const TREES: [(&str, Draft, u64); 4] = [
+const TREES: &[(&str, Draft, u64)] = &[
     ("Doubles", DOUBLES, 32),
     ("in two parts", TWO_PARTS, 18),
     ("in three parts", THREE_PARTS, 11),
@@ -272,7 +272,7 @@ const TREES: [(&str, Draft, u64); 4] = [
 
 #[test]
 fn live_nodes_of_trees(rt: HostRuntime) -> Result<(), Fail> {
-    for (name, draft, nodes) in TREES {
+    for &(name, draft, nodes) in TREES {
         if live_nodes(rt.alloc(), &draft)? != nodes {
             return Err(Fail::from(name));
         }
@@ -305,7 +305,7 @@ fn goes_to(
 }
 
 // Nodes one after another, some of which have rows twice.
-const NODES: [&[u8]; 7] = [
+const NODES: &[&[u8]] = &[
     &[0, 0, 0, 0, 0, 0, 0],
     &[0, 0, 0, 0, 0, 1],
     &[0, 0, 0, 0],
@@ -343,7 +343,7 @@ fn nodes_with_rows_twice(rt: HostRuntime) -> Result<(), Fail> {
 
 // Of nodes that are gone to, one after another, the first live step from one on. The node of four plain leads has come
 // home; after a bob, a plain lead turns back; from the third step on there is none.
-const FIRST_STEPS: [(&[u8], u8, Option<u8>); 7] = [
+const FIRST_STEPS: &[(&[u8], u8, Option<u8>)] = &[
     (&[0, 0, 0], 1, Some(1)),
     (&[0], 1, Some(1)),
     (&[0, 0, 0, 0], 0, None),
@@ -361,7 +361,7 @@ fn goes_down_from_all(
 ) -> Result<bool, Fail>
     requires { walk.old.problem ≡ problem.now }
 {
-    for (node, from, step) in FIRST_STEPS {
+    for &(node, from, step) in FIRST_STEPS {
         if !goes_to(alloc, problem, leads, walk, node)? || down(problem, walk, from) != step {
             return Ok(false);
         }
@@ -381,7 +381,7 @@ fn first_steps_of_nodes(rt: HostRuntime) -> Result<(), Fail> {
 
 // Whether nodes come home, as often as there are parts. The head of a plain lead, 13524, turns four bells round; that of a
 // bob, 12354, swaps two; that of both, 13542, turns three round.
-const HOMES: [(&str, Draft, &[u8], bool); 7] = [
+const HOMES: &[(&str, Draft, &[u8], bool)] = &[
     ("four plain leads", DOUBLES, &[0, 0, 0, 0], true),
     ("three plain leads", DOUBLES, &[0, 0, 0], false),
     ("twice two plain leads", TWO_PARTS, &[0, 0], true),
@@ -404,7 +404,7 @@ fn comes_home(alloc: Global, draft: &Draft, node: &[u8]) -> Result<bool, Fail> {
 
 #[test]
 fn nodes_come_home(rt: HostRuntime) -> Result<(), Fail> {
-    for (name, draft, node, home) in HOMES {
+    for &(name, draft, node, home) in HOMES {
         if comes_home(rt.alloc(), &draft, node)? != home {
             return Err(Fail::from(name));
         }

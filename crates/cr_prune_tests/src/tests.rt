@@ -266,7 +266,7 @@ fn dead_after(
     Ok(Pruner::new(&leads, &reach, &problem).dead(&walk))
 }
 
-const NODES: [(&str, Draft, &[u8], Option<Reason>); 15] = [
+const NODES: &[(&str, Draft, &[u8], Option<Reason>)] = &[
     ("b", DOUBLES, &[1], None),
     ("bb", DOUBLES, &[1, 1], None),
     ("pppp", DOUBLES, &[0, 0, 0, 0], None),
@@ -291,7 +291,7 @@ const NODES: [(&str, Draft, &[u8], Option<Reason>); 15] = [
 
 #[test]
 fn nodes_and_why_they_are_dead(rt: HostRuntime) -> Result<(), Fail> {
-    for (name, draft, moves, wanted) in NODES {
+    for &(name, draft, moves, wanted) in NODES {
         for asked in [false, true] {
             if dead_after(&rt, rt.alloc(), &draft, moves, asked)? != wanted {
                 return Err(Fail::from(name));

@@ -257,7 +257,7 @@ fn judged(alloc: Global, draft: &Draft, steps: &[u8]) -> Result<(bool, bool), Fa
 #[derive(Clone, Copy)]
 struct Touch(&'static str, Draft, &'static [u8], bool, bool);
 
-const TOUCHES: [Touch; 13] = [
+const TOUCHES: &[Touch] = &[
     Touch(
         "the least rotation",
         DOUBLES,
@@ -335,7 +335,7 @@ const TOUCHES: [Touch; 13] = [
 
 #[test]
 fn touches(rt: HostRuntime) -> Result<(), Fail> {
-    for Touch(name, draft, steps, met, kept) in TOUCHES {
+    for &Touch(name, draft, steps, met, kept) in TOUCHES {
         if judged(rt.alloc(), &draft, steps)? != (met, kept) {
             return Err(Fail::from(name));
         }
@@ -344,7 +344,7 @@ fn touches(rt: HostRuntime) -> Result<(), Fail> {
 }
 
 // Cells, and how many of the 40 rows of the plain course fit them.
-const SHAPES: [(&str, &[Cell], i64); 8] = [
+const SHAPES: &[(&str, &[Cell], i64)] = &[
     ("fixed", &[Bell(1), Bell(3), Bell(5), Bell(2), Bell(4)], 1),
     ("any bells between", &[Bell(1), Any, Any, Any, Bell(5)], 2),
     (
@@ -376,7 +376,7 @@ fn course_has(alloc: Global, cells: &'static [Cell], number: i64) -> Result<bool
 
 #[test]
 fn rows_that_fit(rt: HostRuntime) -> Result<(), Fail> {
-    for (name, cells, number) in SHAPES {
+    for &(name, cells, number) in SHAPES {
         let here = course_has(rt.alloc(), cells, number)?;
         let more = course_has(rt.alloc(), cells, number + 1)?;
         if !here || more {
@@ -533,25 +533,66 @@ fn walked(
 ) -> Result<(Told, Option<Hopeless>), Fail> {
     let problem = problem(alloc, draft)?;
     let leads = table(alloc, &problem)?;
-    let calling = calling(alloc, node)?;
-    if !problem.has_steps(node) || step >= leads.count() {
-        return Err(Fail::from("the steps are the problem's"));
+    if !problem.has_steps(node) || step >= leads.count() || node.len() >= 1024 {
+        return Err(Fail::from("the node is a short one of the problem"));
     }
-    let Ok(mut meter) = Meter::new(alloc, &problem) else {
-        return Err(Fail::from("there is memory"));
-    };
-    if node.len() >= 1024 {
-        return Err(Fail::from("the node is short"));
-    }
-    lead_to(alloc, &mut meter, &problem, &leads, node, is_counted)?;
-    let head = leads.head_after(&calling);
+    told_at(alloc, &problem, &leads, node, step, is_counted)
+}
+
+// The same over the leads of the problem.
+fn told_at(
+    alloc: Global,
+    problem: &Problem,
+    leads: &LeadTable,
+    node: &[u8],
+    step: u8,
+    is_counted: bool,
+) -> Result<(Told, Option<Hopeless>), Fail>
+    requires table { leads.now ≡ lead_table problem.now }
+    requires steps { HasSteps problem.now node.now }
+    requires step { step < length leads.now.leads }
+    requires few { length node.now < 1024 }
+{
+    let head = head_after(alloc, problem, leads, node)?;
+    let mut meter = meter_at(alloc, problem, leads, node, is_counted)?;
     let before = meter.hopeless();
     let by_leads = meter.is_hopeless_with(step);
-    add(alloc, &mut meter, &problem, &leads, step, &head, is_counted)?;
+    add(alloc, &mut meter, problem, leads, step, &head, is_counted)?;
     let child = meter.hopeless();
     let counts = meter.meets_counts();
-    back(alloc, &mut meter, &problem, &leads, step, &head, is_counted)?;
+    back(alloc, &mut meter, problem, leads, step, &head, is_counted)?;
     Ok((Told(before, by_leads, child, counts), meter.hopeless()))
+}
+
+// The head after a node.
+fn head_after(alloc: Global, problem: &Problem, leads: &LeadTable, node: &[u8]) -> Result<Row, Fail>
+    requires table { leads.now ≡ lead_table problem.now }
+    requires steps { HasSteps problem.now node.now }
+    ensures is { IfOk result (λ head. head ≡ head_of problem.now node.now) }
+    ensures long { IfOk result (λ head. length head ≡ leads.now.stage) }
+{
+    let calling = calling(alloc, node)?;
+    Ok(leads.head_after(&calling))
+}
+
+// A meter at a node.
+fn meter_at(
+    alloc: Global,
+    problem: &Problem,
+    leads: &LeadTable,
+    node: &[u8],
+    is_counted: bool,
+) -> Result<Meter, Fail>
+    requires table { leads.now ≡ lead_table problem.now }
+    requires steps { HasSteps problem.now node.now }
+    requires few { length node.now < 1024 }
+    ensures { IfOk result (λ meter. meter ≡ record { problem = problem.now; node = node.now }) }
+{
+    let Ok(mut meter) = Meter::new(alloc, problem) else {
+        return Err(Fail::from("there is memory"));
+    };
+    lead_to(alloc, &mut meter, problem, leads, node, is_counted)?;
+    Ok(meter)
 }
 
 // Leads a fresh meter to a node.
@@ -582,7 +623,7 @@ fn lead_to(
 #[derive(Clone, Copy)]
 struct Metered(&'static str, Draft, &'static [u8], u8, Told);
 
-const METERED: [Metered; 14] = [
+const METERED: &[Metered] = &[
     Metered(
         "one bob in two parts is two",
         ONE_BOB_IN_TWO_PARTS,
@@ -685,7 +726,7 @@ const METERED: [Metered; 14] = [
 
 #[test]
 fn meters(rt: HostRuntime) -> Result<(), Fail> {
-    for Metered(name, draft, node, step, told) in METERED {
+    for &Metered(name, draft, node, step, told) in METERED {
         let rung = walked(rt.alloc(), &draft, node, step, false)?;
         let counted = walked(rt.alloc(), &draft, node, step, true)?;
         if rung != (told, told.0) || counted != (told, told.0) {

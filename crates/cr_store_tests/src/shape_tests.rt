@@ -11,7 +11,7 @@ use std::test::Fail;
 const ROOT: &str = "found 0\njobs 1\njob 1\n-\nend\n";
 
 // The greatest length that the whole text is cut to, and the line that is then wrong.
-const CUTS: [(usize, u64); 8] = [
+const CUTS: &[(usize, u64)] = &[
     (23, 1),
     (159, 2),
     (160, 13),
@@ -23,7 +23,7 @@ const CUTS: [(usize, u64); 8] = [
 ];
 
 fn fault_of_cut(length: usize) -> Option<Told> {
-    for (most, line) in CUTS {
+    for &(most, line) in CUTS {
         if length <= most {
             return Some((1, line, 0));
         }
@@ -52,7 +52,7 @@ fn every_cut_is_wrong_on_its_line(rt: HostRuntime) -> Result<(), Fail> {
 // What stands after the first line's words, what comes after the problem, and the fault.
 type Case = (&'static str, &'static str, Option<Told>);
 
-const CASES: [Case; 56] = [
+const CASES: &[Case] = &[
     ("3", "found 0\njobs 0\nend\n", Some((1, 1, 0))),
     ("0", "found 0\njobs 0\nend\n", Some((1, 1, 0))),
     ("12", "found 0\njobs 0\nend\n", Some((1, 1, 0))),
@@ -137,7 +137,7 @@ const CASES: [Case; 56] = [
 
 #[test]
 fn lines_are_right_or_wrong(rt: HostRuntime) -> Result<(), Fail> {
-    for (version, lines, want) in CASES {
+    for &(version, lines, want) in CASES {
         let text = text_of(rt.alloc(), version, "124", DOUBLES, lines)?;
         if fault_of(rt.alloc(), &text) != want {
             return Err(Fail::from(lines));
@@ -147,7 +147,7 @@ fn lines_are_right_or_wrong(rt: HostRuntime) -> Result<(), Fail> {
 }
 
 // Whole texts, and the fault. No bytes are no problem, nor are line feeds alone: there is no stage.
-const TEXTS: [(&str, Option<Told>); 15] = [
+const TEXTS: &[(&str, Option<Told>)] = &[
     ("", Some((1, 1, 0))),
     ("\n", Some((1, 1, 0))),
     ("stage = 5\n", Some((1, 1, 0))),
@@ -194,7 +194,7 @@ const TEXTS: [(&str, Option<Told>); 15] = [
 
 #[test]
 fn problems_have_their_bytes(rt: HostRuntime) -> Result<(), Fail> {
-    for (text, want) in TEXTS {
+    for &(text, want) in TEXTS {
         if fault_of(rt.alloc(), text.as_bytes()) != want {
             return Err(Fail::from(text));
         }

@@ -84,7 +84,7 @@ type Case = (
     Result<&'static str, Told>,
 );
 
-const CASES: [Case; 16] = [
+const CASES: &[Case] = &[
     (
         "the root",
         "found 0\njobs 1\njob 1\n-\nend\n",
@@ -184,7 +184,7 @@ const CASES: [Case; 16] = [
 ];
 
 // Last lines of version 2 alone.
-const SHARES: [(&str, &str, Told); 5] = [
+const SHARES: &[(&str, &str, Told)] = &[
     (
         "a first node that shares",
         "found 0\njobs 1\njob 1\n1 b\nend\n",
@@ -233,12 +233,12 @@ fn is_as_wanted(
 #[test]
 fn checkpoints_are_read(rt: HostRuntime) -> Result<(), Fail> {
     let alloc = rt.alloc();
-    for (name, first, second, want) in CASES {
+    for &(name, first, second, want) in CASES {
         if !is_as_wanted(alloc, "1", first, want)? || !is_as_wanted(alloc, "2", second, want)? {
             return Err(Fail::from(name));
         }
     }
-    for (name, lines, want) in SHARES {
+    for &(name, lines, want) in SHARES {
         if !is_as_wanted(alloc, "2", lines, Err(want))? {
             return Err(Fail::from(name));
         }
@@ -247,7 +247,7 @@ fn checkpoints_are_read(rt: HostRuntime) -> Result<(), Fail> {
 }
 
 // Last lines of version 2, and the number of bytes of the checkpoint.
-const LENGTHS: [(&str, usize); 4] = [
+const LENGTHS: &[(&str, usize)] = &[
     ("found 0\njobs 1\njob 1\n0 -\nend\n", 190),
     ("found 0\njobs 1\njob 2\n0 b\n0 p\nend\n", 194),
     ("found 0\njobs 2\njob 1\n0 b\njob 1\n0 p\nend\n", 200),
@@ -257,7 +257,7 @@ const LENGTHS: [(&str, usize); 4] = [
 // The number of the problem's bytes, the problem, the last lines of version 2, and the fault, if there is one.
 type Other = (&'static str, &'static str, &'static str, Option<Told>);
 
-const OTHERS: [Other; 6] = [
+const OTHERS: &[Other] = &[
     ("0", "", "found 0\njobs 0\nend\n", Some((2, 0, 0))),
     ("9", "stage = 5", "found 0\njobs 0\nend\n", Some((2, 0, 0))),
     ("125", DOUBLES, "found 0\njobs 0\nend\n", Some((1, 14, 0))),
@@ -279,10 +279,10 @@ const OTHERS: [Other; 6] = [
 #[test]
 fn other_problems(rt: HostRuntime) -> Result<(), Fail> {
     let alloc = rt.alloc();
-    for (lines, want) in LENGTHS {
+    for &(lines, want) in LENGTHS {
         assert_eq!(rt; text_of(alloc, "2", "124", DOUBLES, lines)?.len(), want);
     }
-    for (length, problem, lines, want) in OTHERS {
+    for &(length, problem, lines, want) in OTHERS {
         let text = text_of(alloc, "2", length, problem, lines)?;
         if fault_of(alloc, &text) != want {
             return Err(Fail::from(lines));
@@ -308,7 +308,7 @@ fn plain_nodes(alloc: Global, nodes: &[(&str, usize)]) -> Result<String, Fail> {
 }
 
 // A node of 1,025 leads is no node, in whatever lines it stands; one of 1,024 is a long node.
-const LONG: [(&str, &[(&str, usize)], Told); 5] = [
+const LONG: &[(&str, &[(&str, usize)], Told)] = &[
     ("1", &[("", 1024)], (4, 17, 0)),
     ("1", &[("", 1025)], (3, 17, 0)),
     ("2", &[("0 ", 1025)], (3, 17, 0)),
@@ -319,7 +319,7 @@ const LONG: [(&str, &[(&str, usize)], Told); 5] = [
 #[test]
 fn long_nodes(rt: HostRuntime) -> Result<(), Fail> {
     let alloc = rt.alloc();
-    for (version, nodes, want) in LONG {
+    for &(version, nodes, want) in LONG {
         let lines = plain_nodes(alloc, nodes)?;
         if !is_as_wanted(alloc, version, &lines, Err(want))? {
             return Err(Fail::from(version));

@@ -102,7 +102,7 @@ fn worked_by<R: AllocGlobal + Threads + Wait + Sync>(rt: &R, file: &str) -> Resu
 
 // The root has size 32. The node `b` has the one child `bb`, which is a touch, and no more below it; so below `p` there
 // are 29 turns with the other four touches.
-const JOURNAL: [Entry; 4] = [
+const JOURNAL: &[Entry] = &[
     Entry::Take {
         worker: 0,
         lane: 0,
@@ -134,7 +134,7 @@ const JOURNAL: [Entry; 4] = [
 #[test]
 fn a_worker_goes_on_to_the_last_job(rt: HostRuntime) -> Result<(), Fail> {
     let board = worked_by(&rt, DOUBLES)?;
-    assert!(rt; board.journal() == JOURNAL.as_slice());
+    assert!(rt; board.journal() == JOURNAL);
     assert!(rt; board.is_done() && has_all(&board));
     Ok(())
 }

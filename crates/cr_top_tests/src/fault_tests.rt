@@ -196,7 +196,7 @@ impl Explorer for Refusing {
 }
 
 // The touches of Plain Bob Doubles.
-const TOUCHES: [&[u8]; 5] = [
+const TOUCHES: &[&[u8]] = &[
     &[1, 1],
     &[0, 0, 0, 0],
     &[0, 1, 0, 1, 0, 1],

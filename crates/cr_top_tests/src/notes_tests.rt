@@ -189,7 +189,7 @@ fn each_fault_has_its_details(rt: HostRuntime) -> Result<(), Fail> {
     Ok(())
 }
 
-const PATHS: [(&[u8], &str); 4] = [
+const PATHS: &[(&[u8], &str)] = &[
     (b"stage", "ringsearch: problem 2 Key stage\n"),
     (b"", "ringsearch: problem 2 Key \n"),
     (
@@ -204,7 +204,7 @@ const PATHS: [(&[u8], &str); 4] = [
 
 #[test]
 fn paths_are_shown(rt: HostRuntime) -> Result<(), Fail> {
-    for (path, line) in PATHS {
+    for &(path, line) in PATHS {
         let bytes = Vec::from_slice(rt.alloc(), path)?;
         let mut notes = SureSink::new(rt.alloc());
         write_note(&mut notes, &Problem(Key(KeyPath { bytes })));
@@ -215,7 +215,7 @@ fn paths_are_shown(rt: HostRuntime) -> Result<(), Fail> {
 
 // Which write fails, how many bytes a write takes, and what was written before: the pieces of the line are its head,
 // the word of its status, the fault's name, its number, and the line feed.
-const BROKEN: [(u64, u64, &str); 8] = [
+const BROKEN: &[(u64, u64, &str)] = &[
     (1, 100, ""),
     (1, 3, ""),
     (2, 3, "rin"),
@@ -229,7 +229,7 @@ const BROKEN: [(u64, u64, &str); 8] = [
 #[test]
 fn a_fault_ends_the_line(rt: HostRuntime) -> Result<(), Fail> {
     let alloc = rt.alloc();
-    for (fail, most, written) in BROKEN {
+    for &(fail, most, written) in BROKEN {
         let mut notes = MemSink::new(alloc, Vec::from_slice(alloc, &[fail])?, most);
         write_note(&mut notes, &Problem(Stage(17)));
         holds(written, notes.bytes())?;

@@ -79,7 +79,7 @@ fn a_stopped_search_goes_on(rt: HostRuntime) -> Result<(), Fail> {
 
 // A problem, the turns that are allowed, and the status: the root of Plain Bob Doubles has size 32, that of Plain Bob
 // Minimus 4.
-const EDGES: [(&str, &str, u8); 4] = [
+const EDGES: &[(&str, &str, u8)] = &[
     (DOUBLES, "31", 3),
     (DOUBLES, "32", 0),
     (MINIMUS, "3", 3),
@@ -88,7 +88,7 @@ const EDGES: [(&str, &str, u8); 4] = [
 
 #[test]
 fn a_search_stops_below_its_size(rt: HostRuntime) -> Result<(), Fail> {
-    for (problem, turns, code) in EDGES {
+    for &(problem, turns, code) in EDGES {
         let (ended, _) = answered(&rt, &["--turns", turns], problem.as_bytes())?;
         check(turns, ended == code)?;
     }
@@ -133,7 +133,7 @@ fn chains_of_stops(rt: HostRuntime) -> Result<(), Fail> {
 }
 
 // Lines after the problem in version 1 and in version 2 (none where there is none), and how the call ends.
-const CHECKPOINTS: [(&str, &str, Ending<'static>); 14] = [
+const CHECKPOINTS: &[(&str, &str, Ending<'static>)] = &[
     (
         "found 0\njobs 1\njob 2\np\npb\nend\n",
         "found 0\njobs 1\njob 2\n0 p\n1 b\nend\n",
@@ -212,7 +212,7 @@ const CHECKPOINTS: [(&str, &str, Ending<'static>); 14] = [
 
 #[test]
 fn checkpoints_are_read(rt: HostRuntime) -> Result<(), Fail> {
-    for (first, second, ending) in CHECKPOINTS {
+    for &(first, second, ending) in CHECKPOINTS {
         for (version, lines) in [("1", first), ("2", second)] {
             if !lines.is_empty() {
                 let text = checkpoint(rt.alloc(), version, lines)?;
@@ -224,7 +224,7 @@ fn checkpoints_are_read(rt: HostRuntime) -> Result<(), Fail> {
 }
 
 // How long a front of the checkpoint of the root of Plain Bob Doubles is, in version 1, and its note.
-const FRONTS: [(usize, usize, &str); 10] = [
+const FRONTS: &[(usize, usize, &str)] = &[
     (0, 0, "ringsearch: problem 2 Key stage\n"),
     (1, 21, "ringsearch: problem 1 NotToml\n"),
     (22, 23, "ringsearch: checkpoint 1 Form 1\n"),
@@ -241,7 +241,7 @@ const FRONTS: [(usize, usize, &str); 10] = [
 fn fronts_of_a_checkpoint(rt: HostRuntime) -> Result<(), Fail> {
     let text = checkpoint(rt.alloc(), "1", "found 0\njobs 1\njob 1\n-\nend\n")?;
     check("188", text.len() == 188)?;
-    for (from, to, note) in FRONTS {
+    for &(from, to, note) in FRONTS {
         for length in from..=to {
             let front = text.get(..length).unwrap_or_default();
             let code = if length < 22 { 4 } else { 5 };

@@ -36,7 +36,7 @@ const ALL_DOUBLES: &str =
 const ALL_SPLICED: &str = "24 ApApAp\n24 ApApCp\n24 ApCpCp\n24 CpCpCp\ntouches 4\n";
 
 // Which case it is, how its file begins and ends, and the book.
-const BOOKS: [(&str, &str, &str, &str); 21] = [
+const BOOKS: &[(&str, &str, &str, &str)] = &[
     (
         "plain leads",
         MINIMUS_LEADS,
@@ -162,7 +162,7 @@ const BOOKS: [(&str, &str, &str, &str); 21] = [
 
 #[test]
 fn books(rt: HostRuntime) -> Result<(), Fail> {
-    for (name, start, end, book) in BOOKS {
+    for &(name, start, end, book) in BOOKS {
         let input = format!(in rt.alloc(); "{start}{end}")?;
         check(name, ends(&rt, &[], input.as_bytes(), (0, book, ""))?)?;
     }
@@ -236,7 +236,7 @@ const DONE: &str = "24 ppp\ntouches 1\n";
 
 const SUMMARY: &str = "plain bob minor 1 to 72\ntouches 9\nlongest 72\n36 2\n60 1\n72 6\n";
 
-const WORDS: [(&[&str], Ending<'static>); 17] = [
+const WORDS: &[(&[&str], Ending<'static>)] = &[
     (&[], (0, DONE, "")),
     (&["--do", "search"], (0, DONE, "")),
     (&["--workers=64", "--do=search"], (0, DONE, "")),
@@ -273,13 +273,13 @@ const WORDS: [(&[&str], Ending<'static>); 17] = [
 
 #[test]
 fn words(rt: HostRuntime) -> Result<(), Fail> {
-    for (words, ending) in WORDS {
+    for &(words, ending) in WORDS {
         check("words", ends(&rt, words, MINIMUS.as_bytes(), ending)?)?;
     }
     Ok(())
 }
 
-const CALLS: [Call; 14] = [
+const CALLS: &[Call] = &[
     (
         "limits the wrong way round",
         TURNED_COM,
@@ -366,7 +366,7 @@ const CALLS: [Call; 14] = [
 
 #[test]
 fn inputs_and_faults(rt: HostRuntime) -> Result<(), Fail> {
-    for (name, input, faults, ending) in CALLS {
+    for &(name, input, faults, ending) in CALLS {
         check(
             name,
             ends_with(&rt, &[], input.as_bytes(), 50, faults, ending)?,

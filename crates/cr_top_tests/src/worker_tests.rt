@@ -11,7 +11,7 @@ use std::test::Fail;
 const ALL_MINIMUS: &str = "24 ppp\ntouches 1\n";
 
 // How many workers and after how many turns a search of which problem, the status, and the book.
-const TOGETHER: [(&str, &str, &str, u8, &str); 9] = [
+const TOGETHER: &[(&str, &str, &str, u8, &str)] = &[
     (DOUBLES, "1", "32", 0, ALL_DOUBLES),
     (DOUBLES, "2", "32", 0, ALL_DOUBLES),
     (DOUBLES, "16", "32", 0, ALL_DOUBLES),
@@ -25,7 +25,7 @@ const TOGETHER: [(&str, &str, &str, u8, &str); 9] = [
 
 #[test]
 fn workers_search_together(rt: HostRuntime) -> Result<(), Fail> {
-    for (problem, workers, turns, code, book) in TOGETHER {
+    for &(problem, workers, turns, code, book) in TOGETHER {
         let (ended, mut text) = answered(
             &rt,
             &["--workers", workers, "--turns", turns],

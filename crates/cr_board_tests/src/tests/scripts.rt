@@ -162,7 +162,7 @@ fn follow(board: &mut Board, alloc: Global, rows: &[Row]) -> Result<(), Fail> {
     Ok(())
 }
 
-const SCRIPT: [Row; 14] = [
+const SCRIPT: &[Row] = &[
     (Next(0), Seen::Job(1, 4096), [&[0], &[], &[]]),
     (Next(0), Seen::Mine(1), [&[0], &[], &[]]),
     (Next(1), Seen::Job(0, 4096), [&[], &[], &[]]),
@@ -179,7 +179,7 @@ const SCRIPT: [Row; 14] = [
     (Next(0), Seen::Empty, [&[], &[], &[]]),
 ];
 
-const JOURNAL: [Entry; 6] = [
+const JOURNAL: &[Entry] = &[
     Entry::Take {
         worker: 0,
         lane: 0,
@@ -220,7 +220,7 @@ fn both_found(board: &Board) -> bool {
     let [first, second] = board.found() else {
         return false;
     };
-    board.journal() == JOURNAL.as_slice()
+    board.journal() == JOURNAL
         && board.is_done()
         && board.spent() == 2
         && first.steps() == [0].as_slice()
@@ -230,12 +230,12 @@ fn both_found(board: &Board) -> bool {
 #[test]
 fn a_script_step_by_step(rt: HostRuntime) -> Result<(), Fail> {
     let mut board = board_of_two(rt.alloc(), None)?;
-    follow(&mut board, rt.alloc(), &SCRIPT)?;
+    follow(&mut board, rt.alloc(), SCRIPT)?;
     assert!(rt; both_found(&board));
     Ok(())
 }
 
-const EVENTS: [Event; 14] = [
+const EVENTS: &[Event] = &[
     Event::Next(0),
     Event::Next(0),
     Event::Next(1),
@@ -256,7 +256,7 @@ fn play(board: &mut Board, alloc: Global) -> Result<(), Fail>
     requires { board.old.opening.problem ≡ hunts }
 {
     let hunter = make_hunter(alloc)?;
-    board.play(alloc, &EVENTS, &hunter)?;
+    board.play(alloc, EVENTS, &hunter)?;
     Ok(())
 }
 
@@ -297,7 +297,7 @@ fn board_of(alloc: Global, text: &[u8], budget: Option<u64>) -> Result<Board, Fa
 // Calls on a board with one job of these nodes, with this budget.
 type Case = (&'static [u8], Option<u64>, &'static [Row]);
 
-const CASES: [Case; 9] = [
+const CASES: &[Case] = &[
     // A rest of one node is one job, and of two two.
     (
         b"p/",
@@ -426,7 +426,7 @@ fn after(alloc: Global, text: &[u8], budget: Option<u64>, rows: &[Row]) -> Resul
 
 #[test]
 fn scripts_of_one_job(rt: HostRuntime) -> Result<(), Fail> {
-    for (text, budget, rows) in &CASES {
+    for (text, budget, rows) in CASES {
         after(rt.alloc(), text, *budget, rows)?;
     }
     Ok(())

@@ -150,7 +150,7 @@ fn visit_below<'a>(
 }
 
 // Two steps have 2, 4, 8 and so on nodes of one lead, two, three and so on.
-const TREES: [(&str, Draft, u64); 6] = [
+const TREES: &[(&str, Draft, u64)] = &[
     ("Doubles", DOUBLES, 16_382),
     ("Doubles in two parts", IN_TWO_PARTS, 254),
     ("Doubles with four bobs", FOUR_BOBS, 254),
@@ -161,7 +161,7 @@ const TREES: [(&str, Draft, u64); 6] = [
 
 #[test]
 fn trees(rt: HostRuntime) -> Result<(), Fail> {
-    for (name, draft, nodes) in TREES {
+    for &(name, draft, nodes) in TREES {
         for asked in [false, true] {
             if nodes_below(&rt, rt.alloc(), &draft, asked)? != nodes {
                 return Err(Fail::from(name));
