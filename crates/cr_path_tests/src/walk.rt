@@ -253,13 +253,53 @@ fn visit_all(
     Err(Fail::from("the tree has an end"))
 }
 
-fn live_nodes(alloc: Global, draft: &Draft) -> Result<u64, Fail> {
+// What is asked of a walk that stands at the root.
+#[derive(Clone, Copy)]
+enum Asked<'a> {
+    // The number of live nodes.
+    LiveNodes,
+    // Whether it tells of nodes what ringing does: 1 where it does.
+    RowsTwice,
+    // Whether it goes down by the first live steps: 1 where it does.
+    FirstSteps,
+    // Whether a node comes home: 1 where it does.
+    Home(&'a [u8]),
+}
+
+// What a walk by the numbers of a problem answers.
+fn answer(alloc: Global, draft: &Draft, asked: Asked) -> Result<u64, Fail> {
     let problem = problem_of(alloc, draft)?;
     let leads = leads_of(alloc, &problem)?;
-    let numbers = numbers_of(alloc, &problem, &leads)?;
-    let mut walk = walk_of(alloc, &problem, &leads, &numbers)?;
-    let mut other = walk_of(alloc, &problem, &leads, &numbers)?;
-    visit_all(alloc, &problem, &leads, &mut walk, &mut other)
+    answer_of(alloc, &problem, &leads, asked)
+}
+
+fn answer_of(alloc: Global, problem: &Problem, leads: &LeadTable, asked: Asked) -> Result<u64, Fail>
+    requires { leads.now ≡ lead_table problem.now }
+{
+    let numbers = numbers_of(alloc, problem, leads)?;
+    let mut walk = walk_of(alloc, problem, leads, &numbers)?;
+    match asked {
+        Asked::LiveNodes => live_nodes(alloc, problem, leads, &numbers, &mut walk),
+        Asked::RowsTwice => Ok(u64::from(goes_to_all(alloc, problem, leads, &mut walk)?)),
+        Asked::FirstSteps => Ok(u64::from(goes_down_from_all(alloc, problem, leads, &mut walk)?)),
+        Asked::Home(node) => Ok(u64::from(comes_home(alloc, problem, leads, &mut walk, node)?)),
+    }
+}
+
+// The number of live nodes, to each of which another walk goes too.
+fn live_nodes(
+    alloc: Global,
+    problem: &Problem,
+    leads: &LeadTable,
+    numbers: &NumberTable,
+    walk: &mut NumberWalk<3>,
+) -> Result<u64, Fail>
+    requires leads { leads.now ≡ lead_table problem.now }
+    requires numbers { IsNumbered problem.now numbers.now }
+    requires walk { walk.old.problem ≡ problem.now }
+{
+    let mut other = walk_of(alloc, problem, leads, numbers)?;
+    visit_all(alloc, problem, leads, walk, &mut other)
 }
 
 // As many as the turns that a whole search takes.
@@ -273,7 +313,7 @@ const TREES: &[(&str, Draft, u64)] = &[
 #[test]
 fn live_nodes_of_trees(rt: HostRuntime) -> Result<(), Fail> {
     for &(name, draft, nodes) in TREES {
-        if live_nodes(rt.alloc(), &draft)? != nodes {
+        if answer(rt.alloc(), &draft, Asked::LiveNodes)? != nodes {
             return Err(Fail::from(name));
         }
     }
@@ -333,11 +373,7 @@ fn goes_to_all(
 
 #[test]
 fn nodes_with_rows_twice(rt: HostRuntime) -> Result<(), Fail> {
-    let problem = problem_of(rt.alloc(), &DOUBLES)?;
-    let leads = leads_of(rt.alloc(), &problem)?;
-    let numbers = numbers_of(rt.alloc(), &problem, &leads)?;
-    let mut walk = walk_of(rt.alloc(), &problem, &leads, &numbers)?;
-    assert!(rt; goes_to_all(rt.alloc(), &problem, &leads, &mut walk)?);
+    assert!(rt; answer(rt.alloc(), &DOUBLES, Asked::RowsTwice)? == 1);
     Ok(())
 }
 
@@ -371,11 +407,7 @@ fn goes_down_from_all(
 
 #[test]
 fn first_steps_of_nodes(rt: HostRuntime) -> Result<(), Fail> {
-    let problem = problem_of(rt.alloc(), &DOUBLES)?;
-    let leads = leads_of(rt.alloc(), &problem)?;
-    let numbers = numbers_of(rt.alloc(), &problem, &leads)?;
-    let mut walk = walk_of(rt.alloc(), &problem, &leads, &numbers)?;
-    assert!(rt; goes_down_from_all(rt.alloc(), &problem, &leads, &mut walk)?);
+    assert!(rt; answer(rt.alloc(), &DOUBLES, Asked::FirstSteps)? == 1);
     Ok(())
 }
 
@@ -391,12 +423,17 @@ const HOMES: &[(&str, Draft, &[u8], bool)] = &[
     ("three times a bob", THREE_PARTS, &[1], false),
 ];
 
-fn comes_home(alloc: Global, draft: &Draft, node: &[u8]) -> Result<bool, Fail> {
-    let problem = problem_of(alloc, draft)?;
-    let leads = leads_of(alloc, &problem)?;
-    let numbers = numbers_of(alloc, &problem, &leads)?;
-    let mut walk = walk_of(alloc, &problem, &leads, &numbers)?;
-    if !goes_to(alloc, &problem, &leads, &mut walk, node)? {
+// Whether the node to which a walk goes comes home.
+fn comes_home(
+    alloc: Global,
+    problem: &Problem,
+    leads: &LeadTable,
+    walk: &mut NumberWalk<3>,
+    node: &[u8],
+) -> Result<bool, Fail>
+    requires { walk.old.problem ≡ problem.now }
+{
+    if !goes_to(alloc, problem, leads, walk, node)? {
         return Err(Fail::from("the walk is elsewhere"));
     }
     Ok(walk.comes_home())
@@ -405,7 +442,7 @@ fn comes_home(alloc: Global, draft: &Draft, node: &[u8]) -> Result<bool, Fail> {
 #[test]
 fn nodes_come_home(rt: HostRuntime) -> Result<(), Fail> {
     for &(name, draft, node, home) in HOMES {
-        if comes_home(rt.alloc(), &draft, node)? != home {
+        if answer(rt.alloc(), &draft, Asked::Home(node))? != u64::from(home) {
             return Err(Fail::from(name));
         }
     }

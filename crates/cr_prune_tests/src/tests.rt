@@ -256,14 +256,27 @@ fn dead_after(
 ) -> Result<Option<Reason>, Fail> {
     let problem = problem_of(alloc, draft)?;
     let leads = lead_table(alloc, &problem)?;
-    let reach = reach_table(alloc, &leads)?;
     let table = false_table(rt, alloc, &leads, asked)?;
-    let mut walk = walk_of(alloc, &problem, &leads, table.as_ref())?;
-    go_on(&problem, &mut walk, moves)?;
+    dead_by(alloc, &problem, &leads, table.as_ref(), moves)
+}
+
+fn dead_by(
+    alloc: Global,
+    problem: &Problem,
+    leads: &LeadTable,
+    table: Option<&FalseTable>,
+    moves: &[u8],
+) -> Result<Option<Reason>, Fail>
+    requires leads { leads.now ≡ lead_table problem.now }
+    requires table { IfSome table (λ table. IsFalseTable leads.now table.now) }
+{
+    let reach = reach_table(alloc, leads)?;
+    let mut walk = walk_of(alloc, problem, leads, table)?;
+    go_on(problem, &mut walk, moves)?;
     if walk.steps().is_empty() {
         return Err(Fail::from("the node has steps"));
     }
-    Ok(Pruner::new(&leads, &reach, &problem).dead(&walk))
+    Ok(Pruner::new(leads, &reach, problem).dead(&walk))
 }
 
 const NODES: &[(&str, Draft, &[u8], Option<Reason>)] = &[

@@ -240,13 +240,20 @@ fn calling(alloc: Global, steps: &[u8]) -> Result<Calling, Fail>
 // Whether a calling meets the query, and whether it is kept.
 fn judged(alloc: Global, draft: &Draft, steps: &[u8]) -> Result<(bool, bool), Fail> {
     let problem = problem(alloc, draft)?;
-    let leads = table(alloc, &problem)?;
     let calling = calling(alloc, steps)?;
     if !problem.has_steps(calling.steps()) {
         return Err(Fail::from("the steps are the problem's"));
     }
-    let met = meets(alloc, &problem, &leads, &calling);
-    let kept = is_kept(alloc, &problem, &leads, &calling);
+    judged_by(alloc, &problem, &calling)
+}
+
+// The same, over the leads of the problem.
+fn judged_by(alloc: Global, problem: &Problem, calling: &Calling) -> Result<(bool, bool), Fail>
+    requires { HasSteps problem.now calling.now }
+{
+    let leads = table(alloc, problem)?;
+    let met = meets(alloc, problem, &leads, calling);
+    let kept = is_kept(alloc, problem, &leads, calling);
     match (met, kept) {
         (Ok(met), Ok(kept)) => Ok((met, kept)),
         _ => Err(Fail::from("there is memory")),

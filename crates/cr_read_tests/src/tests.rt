@@ -1,4 +1,4 @@
-use cr_model::{Cell, Problem, ProblemFault, Query};
+use cr_model::{Cell, Count, MethodCount, Pattern, Problem, ProblemFault, Query};
 use cr_read::read_problem;
 use cr_row::{Change, symbol};
 use std::alloc::{AllocError, Global};
@@ -97,24 +97,43 @@ fn push_leads(text: &mut String, problem: &Problem) -> Result<(), AllocError> {
 // The lengths and the parts, then each count, method count and pattern, then the limits on changes of method.
 fn push_query(alloc: Global, text: &mut String, query: &Query) -> Result<(), AllocError> {
     text.push_str(format!(in alloc; "{} {} {}", query.min, query.max, query.parts)?.as_str())?;
-    for count in &query.counts {
+    push_counts(alloc, text, &query.counts)?;
+    push_method_counts(alloc, text, &query.method_counts)?;
+    push_patterns(alloc, text, &query.patterns)?;
+    if let Some(limits) = &query.com {
+        text.push_str(" com")?;
+        push_limits(alloc, text, limits.min, limits.max)?;
+    }
+    Ok(())
+}
+
+fn push_counts(alloc: Global, text: &mut String, counts: &[Count]) -> Result<(), AllocError> {
+    for count in counts {
         text.push(' ')?;
         text.push(char::from(count.mark))?;
         push_limits(alloc, text, count.min, count.max)?;
     }
-    for count in &query.method_counts {
+    Ok(())
+}
+
+fn push_method_counts(
+    alloc: Global,
+    text: &mut String,
+    counts: &[MethodCount],
+) -> Result<(), AllocError> {
+    for count in counts {
         text.push(' ')?;
         text.push(char::from(count.letter))?;
         push_limits(alloc, text, count.min, count.max)?;
     }
-    for pattern in &query.patterns {
+    Ok(())
+}
+
+fn push_patterns(alloc: Global, text: &mut String, patterns: &[Pattern]) -> Result<(), AllocError> {
+    for pattern in patterns {
         text.push(' ')?;
         push_cells(alloc, text, &pattern.cells)?;
         push_limits(alloc, text, pattern.min, pattern.max)?;
-    }
-    if let Some(limits) = &query.com {
-        text.push_str(" com")?;
-        push_limits(alloc, text, limits.min, limits.max)?;
     }
     Ok(())
 }
@@ -139,8 +158,7 @@ fn told(alloc: Global, bytes: &[u8]) -> Result<String, AllocError> {
     }
 }
 
-// Files of a stage, methods, calls and the rest, and what they are read as.
-// The pieces of a file, and what it reads as.
+// A file in pieces, which are a stage, methods, calls and the rest, and what it is read as.
 type File = ([&'static str; 4], &'static str);
 
 const FILES: &[File] = &[
@@ -500,42 +518,48 @@ fn more_files(rt: HostRuntime) -> Result<(), Fail> {
     check_files(rt.alloc(), MORE)
 }
 
-// Eight methods with three calls, nine methods, and twenty-four calls.
+// A file with a method for each letter and a call for each mark.
+fn lettered_file(alloc: Global, letters: &str, marks: &str) -> Result<String, AllocError> {
+    let methods = lettered(
+        alloc,
+        letters,
+        "[[method]]\nnotation = \"5.1.5.1.5,125\"\nletter = \"",
+        "\"\n",
+    )?;
+    let calls = lettered(
+        alloc,
+        marks,
+        "[[call]]\nnotation = \"145\"\nmark = \"",
+        "\"\n",
+    )?;
+    joined(alloc, &[STAGE, methods.as_str(), calls.as_str(), QUERY])
+}
+
+// Whether such a file is read as this.
+fn lettered_reads_as(
+    alloc: Global,
+    letters: &str,
+    marks: &str,
+    wanted: &str,
+) -> Result<bool, AllocError> {
+    let text = lettered_file(alloc, letters, marks)?;
+    let found = told(alloc, text.as_bytes())?;
+    Ok(found.as_str() == wanted)
+}
+
+// Letters and marks: eight methods with three calls, nine methods, and twenty-four calls.
+const LETTERED: &[(&str, &str, &str)] = &[
+    ("ABCDEFGH", "bcd", "Steps(32)"),
+    ("ABCDEFGHI", "b", "Key(method)"),
+    ("A", "abcdefghijklmnoqrstuvwxy", "Key(call)"),
+];
+
 #[test]
 fn many(rt: HostRuntime) -> Result<(), Fail> {
-    let alloc = rt.alloc();
-    let eight = lettered(
-        alloc,
-        "ABCDEFGH",
-        "[[method]]\nnotation = \"5.1.5.1.5,125\"\nletter = \"",
-        "\"\n",
-    )?;
-    let nine = lettered(
-        alloc,
-        "ABCDEFGHI",
-        "[[method]]\nnotation = \"5.1.5.1.5,125\"\nletter = \"",
-        "\"\n",
-    )?;
-    let three = lettered(
-        alloc,
-        "bcd",
-        "[[call]]\nnotation = \"145\"\nmark = \"",
-        "\"\n",
-    )?;
-    let many = lettered(
-        alloc,
-        "abcdefghijklmnoqrstuvwxy",
-        "[[call]]\nnotation = \"145\"\nmark = \"",
-        "\"\n",
-    )?;
-    for (pieces, want) in [
-        ([STAGE, eight.as_str(), three.as_str(), QUERY], "Steps(32)"),
-        ([STAGE, nine.as_str(), CALL, QUERY], "Key(method)"),
-        ([STAGE, METHOD, many.as_str(), QUERY], "Key(call)"),
-    ] {
-        let text = joined(alloc, &pieces)?;
-        let found = told(alloc, text.as_bytes())?;
-        assert_eq!(rt; found.as_str(), want, "reading {text}");
+    for (letters, marks, wanted) in LETTERED {
+        if !lettered_reads_as(rt.alloc(), letters, marks, wanted)? {
+            return Err(Fail::from(*wanted));
+        }
     }
     Ok(())
 }
