@@ -96,7 +96,7 @@ fn built(
 }
 
 // The most rows, and the number of rows where it is more than that.
-const NUMBERS: [(u64, Option<u64>); 4] = [
+const NUMBERS: &[(u64, Option<u64>)] = &[
     (18, None),
     (17, Some(18)),
     (0, Some(18)),
@@ -105,7 +105,7 @@ const NUMBERS: [(u64, Option<u64>); 4] = [
 
 #[test]
 fn rows_of_minimus(rt: HostRuntime) -> Result<(), Fail> {
-    for (most, wanted) in NUMBERS {
+    for &(most, wanted) in NUMBERS {
         let number = match built(&rt, rt.alloc(), &PLAIN_MINIMUS, most)? {
             Built::Wide(number) => Some(number),
             Built::Table(_) => None,
@@ -118,7 +118,7 @@ fn rows_of_minimus(rt: HostRuntime) -> Result<(), Fail> {
 }
 
 // Two steps, the bells of a row between their heads, and whether they clash.
-const CLASHES: [(u8, u8, &[u8], bool); 4] = [
+const CLASHES: &[(u8, u8, &[u8], bool)] = &[
     (0, 1, &[1, 2, 3, 4, 5], true),
     (0, 0, &[1, 3, 2, 5, 4], true),
     (0, 0, &[1, 2, 3, 4, 5], true),
@@ -130,7 +130,7 @@ fn clashes_of_doubles(rt: HostRuntime) -> Result<(), Fail> {
     let Built::Table(table) = built(&rt, rt.alloc(), &DOUBLES, 4_000_000)? else {
         return Err(Fail::from("the table is small"));
     };
-    for (a, b, bells, wanted) in CLASHES {
+    for &(a, b, bells, wanted) in CLASHES {
         let between = Row::of(bells).ok_or("the bells are a row")?;
         if a >= table.count() || b >= table.count() || table.clash(a, b, &between) != wanted {
             return Err(Fail::from("another answer"));

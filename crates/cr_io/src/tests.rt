@@ -28,7 +28,7 @@ fn holds(name: &'static str, is_right: bool) -> Result<(), Fail> {
 // Which case it is, how many bytes there are, how many a call gives at most, which call fails, the
 // limit, and what ends the reading where it does not come to the end. A call asks for 4,096 bytes,
 // and the last one finds the end.
-const READINGS: [(&str, u64, u64, u64, u64, Option<ReadEnd>); 14] = [
+const READINGS: &[(&str, u64, u64, u64, u64, Option<ReadEnd>)] = &[
     ("nothing, at most nothing", 0, 9, 0, 0, None),
     ("one byte above nothing", 1, 9, 0, 0, Some(ReadEnd::TooLong)),
     ("as many as the limit", 8, 9, 0, 8, None),
@@ -97,7 +97,7 @@ const READINGS: [(&str, u64, u64, u64, u64, Option<ReadEnd>); 14] = [
 #[test]
 fn reads_to_the_end_or_the_limit(rt: HostRuntime) -> Result<(), Fail> {
     let alloc = rt.alloc();
-    for (name, count, most, fail, limit, end) in READINGS {
+    for &(name, count, most, fail, limit, end) in READINGS {
         let bytes = ascending(alloc, count)?;
         let mut source = MemSource::new(bytes.clone()?, Vec::from_slice(alloc, &[fail])?, most);
         match read_all(alloc, &mut source, limit) {
@@ -133,7 +133,7 @@ fn gives_what_it_can(rt: HostRuntime) -> Result<(), Fail> {
 
 // Which case it is, how many bytes the text has, how many a call takes at most, which call fails, and
 // how many bytes are written.
-const WRITINGS: [(&str, u64, u64, u64, u64); 7] = [
+const WRITINGS: &[(&str, u64, u64, u64, u64)] = &[
     ("an empty text makes no call", 0, 16, 1, 0),
     ("the first call fails", 40, 16, 1, 0),
     ("the third call fails", 40, 16, 3, 32),
@@ -146,7 +146,7 @@ const WRITINGS: [(&str, u64, u64, u64, u64); 7] = [
 #[test]
 fn writes_until_a_fault(rt: HostRuntime) -> Result<(), Fail> {
     let alloc = rt.alloc();
-    for (name, count, most, fail, written) in WRITINGS {
+    for &(name, count, most, fail, written) in WRITINGS {
         let text = ascending(alloc, count)?;
         let mut sink = MemSink::new(alloc, Vec::from_slice(alloc, &[fail])?, most);
         let is_whole = write_whole(&mut sink, &text).is_ok();
@@ -161,7 +161,7 @@ fn writes_until_a_fault(rt: HostRuntime) -> Result<(), Fail> {
 }
 
 // Which case it is, and the length of a piece that is written at one call.
-const PIECES: [(&str, usize); 5] = [
+const PIECES: &[(&str, usize)] = &[
     ("an empty piece", 0),
     ("one byte", 1),
     ("4,096 bytes", 4_096),
@@ -173,7 +173,7 @@ const PIECES: [(&str, usize); 5] = [
 fn no_piece_is_lost(rt: HostRuntime) -> Result<(), Fail> {
     let alloc = rt.alloc();
     let text = ascending(alloc, 100_000)?;
-    for (name, length) in PIECES {
+    for &(name, length) in PIECES {
         let piece = &text[..length.min(text.len())];
         let mut sure = SureSink::new(alloc);
         let taken = sure.write(piece);

@@ -95,7 +95,7 @@ fn table(alloc: Global, draft: &Draft) -> Result<LeadTable, Fail> {
 }
 
 // A step, and the bells of its head.
-const HEADS: [(&str, Draft, u8, &[u8]); 8] = [
+const HEADS: &[(&str, Draft, u8, &[u8])] = &[
     ("Minimus plain", MINIMUS, 0, &[1, 3, 4, 2]),
     ("Minimus bob", MINIMUS, 1, &[1, 2, 3, 4]),
     ("Doubles plain", DOUBLES, 0, &[1, 3, 5, 2, 4]),
@@ -108,7 +108,7 @@ const HEADS: [(&str, Draft, u8, &[u8]); 8] = [
 
 #[test]
 fn heads_of_leads(rt: HostRuntime) -> Result<(), Fail> {
-    for (name, draft, step, head) in HEADS {
+    for &(name, draft, step, head) in HEADS {
         let table = table(rt.alloc(), &draft)?;
         if step >= table.count() || usize::from(table.count()) != draft.leads.len() {
             return Err(Fail::from(name));
@@ -133,7 +133,7 @@ struct Wanted(
     bool,
 );
 
-const CALLINGS: [Wanted; 9] = [
+const CALLINGS: &[Wanted] = &[
     Wanted(
         "Doubles bpbpbp",
         DOUBLES,
@@ -221,7 +221,7 @@ fn rung(alloc: Global, table: &LeadTable, calling: &Calling) -> Result<(Rung, Ro
 
 #[test]
 fn callings_rung(rt: HostRuntime) -> Result<(), Fail> {
-    for Wanted(name, draft, steps, length, head, home, distinct) in CALLINGS {
+    for &Wanted(name, draft, steps, length, head, home, distinct) in CALLINGS {
         let table = table(rt.alloc(), &draft)?;
         let (rung, last) = rung(rt.alloc(), &table, &calling(rt.alloc(), steps)?)?;
         if rung.rows.len() != length || Row::of(head) != Some(last) {

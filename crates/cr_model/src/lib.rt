@@ -28,6 +28,3 @@ pub use notation::NotationFault;
 pub use problem::Problem;
 pub use query::{Cell, Com, Count, MethodCount, Pattern, Query};
 pub use reason::Reason;
-
-#[cfg(test)]
-mod tests;

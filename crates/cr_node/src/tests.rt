@@ -70,7 +70,7 @@ fn callings(alloc: Global, text: &[u8]) -> Result<Vec<Calling>, Fail> {
 }
 
 // Found touches of one part, nodes, and the pair that overlaps first.
-const CASES: [(&str, &[u8], &[u8], Option<(u64, u64)>); 17] = [
+const CASES: &[(&str, &[u8], &[u8], Option<(u64, u64)>)] = &[
     ("p and pb", b"", b"p/pb/", Some((0, 1))),
     ("pb and p", b"", b"pb/p/", Some((0, 1))),
     ("no node", b"", b"", None),
@@ -93,7 +93,7 @@ const CASES: [(&str, &[u8], &[u8], Option<(u64, u64)>); 17] = [
 #[test]
 fn overlaps(rt: HostRuntime) -> Result<(), Fail> {
     let problem = problem(rt.alloc(), 1)?;
-    for (name, found, left, overlap) in CASES {
+    for &(name, found, left, overlap) in CASES {
         let found = callings(rt.alloc(), found)?;
         let left = nodes(rt.alloc(), left)?;
         if independent(rt.alloc(), &problem, &found, &left)? != overlap {
@@ -133,7 +133,7 @@ fn nodes_are_short(rt: HostRuntime) -> Result<(), Fail> {
 }
 
 // Two nodes, whether the first is less, and whether it is a prefix.
-const PAIRS: [(&str, &[u8], bool, bool); 7] = [
+const PAIRS: &[(&str, &[u8], bool, bool)] = &[
     ("the root twice", b"//", false, true),
     ("the root and another", b"/p/", true, true),
     ("another and the root", b"p//", false, false),
@@ -145,7 +145,7 @@ const PAIRS: [(&str, &[u8], bool, bool); 7] = [
 
 #[test]
 fn pairs_of_nodes(rt: HostRuntime) -> Result<(), Fail> {
-    for (name, text, is_less, begins) in PAIRS {
+    for &(name, text, is_less, begins) in PAIRS {
         let both = nodes(rt.alloc(), text)?;
         let [first, second] = both.as_slice() else {
             return Err(Fail::from(name));

@@ -60,7 +60,7 @@ fn answer(alloc: Global, stage: u8, text: &str) -> Result<(String, String), Opti
 
 const CAMBRIDGE: &str = "x 36 x 14 x 12 x 36 x 14 x 56 x 14 x 36 x 12 x 14 x 36 x 12 ";
 
-const TEXTS: [(u8, &str, &str, &str); 18] = [
+const TEXTS: &[(u8, &str, &str, &str)] = &[
     (4, "x14x14,12", "x 14 x 14 x 14 x 12 ", "1342"),
     (4, "x14x14x14x14", "x 14 x 14 x 14 x 14 ", "1234"),
     (5, "5.1.5.1.5,125", "5 1 5 1 5 1 5 1 5 125 ", "13524"),
@@ -103,7 +103,7 @@ const TEXTS: [(u8, &str, &str, &str); 18] = [
 
 #[test]
 fn texts_stand_for_changes(rt: HostRuntime) -> Result<(), Fail> {
-    for (stage, text, changes, row) in &TEXTS {
+    for (stage, text, changes, row) in TEXTS {
         let found = answer(rt.alloc(), *stage, text).ok().ok_or("a text")?;
         assert_eq!(rt; found.0.as_str(), *changes, "at {text}");
         assert_eq!(rt; found.1.as_str(), *row, "at {text}");
@@ -111,7 +111,7 @@ fn texts_stand_for_changes(rt: HostRuntime) -> Result<(), Fail> {
     Ok(())
 }
 
-const FAULTS: [(u8, &str, NotationFault); 25] = [
+const FAULTS: &[(u8, &str, NotationFault)] = &[
     (5, "+5.1", NotationFault::Symbol(0)),
     (16, "1.F", NotationFault::Symbol(2)),
     (16, "x e", NotationFault::Symbol(2)),
@@ -141,7 +141,7 @@ const FAULTS: [(u8, &str, NotationFault); 25] = [
 
 #[test]
 fn faults_come_at_their_bytes(rt: HostRuntime) -> Result<(), Fail> {
-    for (stage, text, fault) in &FAULTS {
+    for (stage, text, fault) in FAULTS {
         let found = answer(rt.alloc(), *stage, text).err().ok_or("a fault")?;
         assert!(rt; found == Some(*fault), "at {text}");
     }
@@ -157,7 +157,7 @@ fn number_of(alloc: Global, crosses_before: u32, rest: &str) -> Result<usize, No
 }
 
 // With a comma each block is mirrored: 64 and 1 changes make 127 and 1, 65 and 1 make 129 and 1.
-const LENGTHS: [(u32, &str, Result<usize, NotationFault>); 10] = [
+const LENGTHS: &[(u32, &str, Result<usize, NotationFault>)] = &[
     (128, "", Ok(128)),
     (129, "", Err(NotationFault::Long(129))),
     (130, " ", Err(NotationFault::Long(131))),
@@ -172,7 +172,7 @@ const LENGTHS: [(u32, &str, Result<usize, NotationFault>); 10] = [
 
 #[test]
 fn at_most_128_changes(rt: HostRuntime) {
-    for (number, rest, want) in &LENGTHS {
+    for (number, rest, want) in LENGTHS {
         let found = number_of(rt.alloc(), *number, *rest);
         assert!(rt; found == *want, "at {number} crosses and {rest}");
     }
@@ -193,7 +193,7 @@ fn rewritten(alloc: Global, stage: u8, text: &str) -> Result<String, &'static st
         .ok_or("no memory")
 }
 
-const REWRITTEN: [(u8, &str, &str); 4] = [
+const REWRITTEN: &[(u8, &str, &str)] = &[
     (4, "x14x14,12", "x14x14x14x12"),
     (5, "3,1.5.1.5.1", "3.1.5.1.5.1.5.1.5.1"),
     (6, "-.4. X 2.3456", "x14x12.3456"),
@@ -202,7 +202,7 @@ const REWRITTEN: [(u8, &str, &str); 4] = [
 
 #[test]
 fn canonical_texts(rt: HostRuntime) -> Result<(), Fail> {
-    for (stage, text, want) in &REWRITTEN {
+    for (stage, text, want) in REWRITTEN {
         let written = rewritten(rt.alloc(), *stage, text)?;
         assert_eq!(rt; written.as_str(), *want, "at {text}");
     }

@@ -68,7 +68,7 @@ fn reach(alloc: Global, most_rows: u64) -> Result<ReachTable, Fail> {
 // The most rows, the depth, and how far the rows below are from home.
 type Wanted = (&'static str, u64, u32, [u32; 7]);
 
-const ROWS: [&[u8]; 7] = [
+const ROWS: &[&[u8]] = &[
     &[1, 2, 3, 4, 5],
     &[1, 2, 3, 5, 4],
     &[1, 4, 2, 5, 3],
@@ -78,7 +78,7 @@ const ROWS: [&[u8]; 7] = [
     &[1, 2, 3, 4],
 ];
 
-const TABLES: [Wanted; 6] = [
+const TABLES: &[Wanted] = &[
     ("1 row", 1, 0, [0, 1, 1, 1, 1, 1, 1]),
     ("2 rows", 2, 0, [0, 1, 1, 1, 1, 1, 1]),
     ("3 rows", 3, 1, [0, 1, 1, 2, 2, 2, 2]),
@@ -89,7 +89,7 @@ const TABLES: [Wanted; 6] = [
 
 #[test]
 fn rows_and_how_far_they_are(rt: HostRuntime) -> Result<(), Fail> {
-    for (name, most_rows, depth, wanted) in TABLES {
+    for &(name, most_rows, depth, wanted) in TABLES {
         let reach = reach(rt.alloc(), most_rows)?;
         if reach.depth() != depth {
             return Err(Fail::from(name));

@@ -4,7 +4,7 @@ use std::alloc::Global;
 use std::test::*;
 
 // A word of plain leads (0) and bobs (1), whether it turns back, and whether it is the least of its rotations.
-const WORDS: [(&str, &[u8], bool, bool); 13] = [
+const WORDS: &[(&str, &[u8], bool, bool)] = &[
     ("none", &[], false, true),
     ("p", &[0], false, true),
     ("b", &[1], false, true),
@@ -22,7 +22,7 @@ const WORDS: [(&str, &[u8], bool, bool); 13] = [
 
 #[test]
 fn words_that_turn_back(rt: HostRuntime) {
-    for (name, word, turns, _) in WORDS {
+    for &(name, word, turns, _) in WORDS {
         assert_eq!(rt; turns_back(word), turns, "{name}");
     }
 }
@@ -50,7 +50,7 @@ fn push_all(period: &mut Period, word: &[u8]) {
 
 #[test]
 fn a_period_grows_and_shrinks(rt: HostRuntime) -> Result<(), Fail> {
-    for (name, word, turns, least) in WORDS {
+    for &(name, word, turns, least) in WORDS {
         let period = grown(rt.alloc(), word, 2)?;
         assert_eq!(rt; period.turns_back(), turns, "{name}");
         assert_eq!(rt; period.is_least(), least, "{name}");
@@ -61,7 +61,7 @@ fn a_period_grows_and_shrinks(rt: HostRuntime) -> Result<(), Fail> {
 
 #[test]
 fn a_period_with_a_step_more(rt: HostRuntime) -> Result<(), Fail> {
-    for (name, word, turns, _) in WORDS {
+    for &(name, word, turns, _) in WORDS {
         if let Some((last, front)) = word.split_last() {
             let period = grown(rt.alloc(), front, 0)?;
             assert_eq!(rt; period.turns_back_with(*last), turns, "{name}");
@@ -78,7 +78,7 @@ fn a_period_has_room_for_1024_steps(rt: HostRuntime) -> Result<(), Fail> {
 }
 
 // A calling, by how many leads it is turned, and the rotation.
-const TURNED: [(&[u8], u64, &[u8]); 5] = [
+const TURNED: &[(&[u8], u64, &[u8])] = &[
     (&[1, 0, 1, 0, 1, 0], 1, &[0, 1, 0, 1, 0, 1]),
     (&[0, 1, 0, 1, 0, 1], 1, &[1, 0, 1, 0, 1, 0]),
     (&[0, 1, 2], 0, &[0, 1, 2]),
@@ -95,7 +95,7 @@ fn calling(alloc: Global, steps: &[u8]) -> Result<Calling, Fail> {
 
 #[test]
 fn rotations(rt: HostRuntime) -> Result<(), Fail> {
-    for (steps, by, wanted) in TURNED {
+    for &(steps, by, wanted) in TURNED {
         let before = calling(rt.alloc(), steps)?;
         let rotation = rotated(rt.alloc(), &before, by)?;
         assert_eq!(rt; rotation.steps(), wanted, "by {by}");

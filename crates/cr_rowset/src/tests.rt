@@ -34,7 +34,7 @@ fn push_all(stack: &mut RowStack, pushes: &[Push]) -> Result<(), Fail> {
     Ok(())
 }
 
-const TWO_ROWS: [Push; 5] = [
+const TWO_ROWS: &[Push] = &[
     ("12345", &[1, 2, 3, 4, 5], Pushed::Fresh, 1),
     ("12345 again", &[1, 2, 3, 4, 5], Pushed::Again(0), 1),
     ("21435", &[2, 1, 4, 3, 5], Pushed::Fresh, 2),
@@ -48,7 +48,7 @@ const AFTER_A_CUT_TO_1: [Push; 3] = [
     ("12345 after the cut", &[1, 2, 3, 4, 5], Pushed::Again(0), 2),
 ];
 
-const OF_TWO_STAGES: [Push; 4] = [
+const OF_TWO_STAGES: &[Push] = &[
     ("123", &[1, 2, 3], Pushed::Fresh, 1),
     ("1234", &[1, 2, 3, 4], Pushed::Fresh, 2),
     ("123 again", &[1, 2, 3], Pushed::Again(0), 2),
@@ -58,11 +58,11 @@ const OF_TWO_STAGES: [Push; 4] = [
 #[test]
 fn a_stack_of_room_2(rt: HostRuntime) -> Result<(), Fail> {
     let mut stack = stack(rt.alloc(), 2)?;
-    push_all(&mut stack, &TWO_ROWS)?;
+    push_all(&mut stack, TWO_ROWS)?;
     cut(&mut stack, 1)?;
     push_all(&mut stack, &AFTER_A_CUT_TO_1)?;
     cut(&mut stack, 0)?;
-    push_all(&mut stack, &OF_TWO_STAGES)
+    push_all(&mut stack, OF_TWO_STAGES)
 }
 
 #[test]

@@ -118,7 +118,7 @@ fn push_steps(text: &mut Vec<u8>, steps: &[u8]) -> Result<(), NoMemory> {
 // and what is left. Each row of one turn begins with what the one before it left, so three stops are a whole search.
 type Case = (Begun, Option<u64>, u128, usize, &'static [u8]);
 
-const CASES: [Case; 12] = [
+const CASES: &[Case] = &[
     (Root, Some(1), 1, 2, b"|b/;p/;"),
     (Both, Some(1), 1, 2, b"p/|b/;"),
     (Second, Some(1), 1, 2, b"b/|"),
@@ -136,7 +136,7 @@ const CASES: [Case; 12] = [
 #[test]
 fn boards_run_alone(rt: HostRuntime) -> Result<(), Fail> {
     boards_at_rest();
-    for (begun, budget, spent, entries, text) in CASES {
+    for &(begun, budget, spent, entries, text) in CASES {
         for workers in [1, 3, 64] {
             let board = Board::open(rt.alloc(), opening(rt.alloc(), begun, budget, workers)?)?;
             let board = run(rt.alloc(), board)?;

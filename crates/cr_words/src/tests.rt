@@ -17,7 +17,7 @@ fn words_of(alloc: Global, line: &str) -> Result<Vec<String>, Fail> {
 #[derive(Clone, Copy)]
 struct Taken(&'static str, u32, Option<u64>, Mode);
 
-const TAKEN: [Taken; 14] = [
+const TAKEN: &[Taken] = &[
     Taken("--turns=5", 1, Some(5), Mode::Search),
     Taken("--turns 5", 1, Some(5), Mode::Search),
     Taken("--turns 007", 1, Some(7), Mode::Search),
@@ -48,7 +48,7 @@ const TAKEN: [Taken; 14] = [
 #[derive(Clone, Copy)]
 struct Refused(&'static str, WordsFault);
 
-const REFUSED: [Refused; 33] = [
+const REFUSED: &[Refused] = &[
     Refused("--workers 0", WordsFault::Workers),
     Refused("--workers 65", WordsFault::Workers),
     Refused("--do find", WordsFault::Mode),
@@ -101,7 +101,7 @@ fn no_words_are_a_search(rt: HostRuntime) -> Result<(), Fail> {
 
 #[test]
 fn lines_are_wishes(rt: HostRuntime) -> Result<(), Fail> {
-    for Taken(line, workers, turns, mode) in TAKEN {
+    for &Taken(line, workers, turns, mode) in TAKEN {
         let words = words_of(rt.alloc(), line)?;
         let wish = Wish {
             workers,
@@ -117,7 +117,7 @@ fn lines_are_wishes(rt: HostRuntime) -> Result<(), Fail> {
 
 #[test]
 fn lines_are_refused(rt: HostRuntime) -> Result<(), Fail> {
-    for Refused(line, fault) in REFUSED {
+    for &Refused(line, fault) in REFUSED {
         let words = words_of(rt.alloc(), line)?;
         if read_words(rt.alloc(), &words) != Err(fault) {
             return Err(Fail::from(line));

@@ -26,7 +26,7 @@ fn all_found(board: &Board) -> bool {
         && first.steps() != second.steps()
 }
 
-const ALONE: [Entry; 4] = [
+const ALONE: &[Entry] = &[
     Entry::Take {
         worker: 0,
         lane: 0,
@@ -60,7 +60,7 @@ const ALONE: [Entry; 4] = [
 fn a_worker_alone(rt: HostRuntime) -> Result<(), Fail> {
     let board = board_for(rt.alloc(), 1)?;
     let (board, entries) = run_all(&rt, rt.alloc(), board, &make_hunter(rt.alloc())?)?;
-    assert!(rt; board.journal() == ALONE.as_slice() && all_found(&board));
+    assert!(rt; board.journal() == ALONE && all_found(&board));
     assert_eq!(rt; entries, 4);
     Ok(())
 }

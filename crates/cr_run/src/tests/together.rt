@@ -55,7 +55,7 @@ fn all_found(board: &Board) -> bool {
 // It is what one worker comes to.
 type Case = (Begun, Option<u64>, u128, usize, bool);
 
-const CASES: [Case; 12] = [
+const CASES: &[Case] = &[
     (Root, None, 3, 2, true),
     (Root, Some(0), 0, 0, false),
     (Root, Some(1), 1, 0, false),
@@ -73,7 +73,7 @@ const CASES: [Case; 12] = [
 #[test]
 fn workers_come_to_the_same(rt: HostRuntime) -> Result<(), Fail> {
     let hunter = make_hunter(rt.alloc())?;
-    for (begun, budget, spent, found, done) in CASES {
+    for &(begun, budget, spent, found, done) in CASES {
         for workers in [1, 2, 3, 8, 64] {
             let opening = opening(rt.alloc(), begun, budget, workers)?;
             let board = run_workers(&rt, rt.alloc(), opening, &hunter)?;
@@ -86,7 +86,7 @@ fn workers_come_to_the_same(rt: HostRuntime) -> Result<(), Fail> {
 
 // Workers, how many calls find no memory, and how many calls there are where the run finishes: each refused worker
 // leaves, and after all of them one worker has one try more.
-const REFUSALS: [(u32, u64, Option<u64>); 8] = [
+const REFUSALS: &[(u32, u64, Option<u64>)] = &[
     (2, 1, Some(3)),
     (2, 2, Some(4)),
     (2, 3, None),
@@ -99,7 +99,7 @@ const REFUSALS: [(u32, u64, Option<u64>); 8] = [
 
 #[test]
 fn a_worker_without_memory_leaves(rt: HostRuntime) -> Result<(), Fail> {
-    for (workers, refused, calls) in REFUSALS {
+    for &(workers, refused, calls) in REFUSALS {
         let explorer = Refusing {
             hunter: make_hunter(rt.alloc())?,
             calls: AtomicU64::new(0),

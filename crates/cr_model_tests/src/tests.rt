@@ -1,5 +1,8 @@
-use super::Cell::{Bell, Run};
-use super::*;
+use cr_model::Cell::{Bell, Run};
+use cr_model::{
+    Calling, Cell, Com, Count, CountAt, KeyPath, Lead, MethodCount, PartFault, Pattern, Problem,
+    ProblemFault, Query, Step,
+};
 use cr_row::{Change, Stage};
 use std::fmt::Write;
 use std::test::Fail;
@@ -118,7 +121,7 @@ const OF_B: MethodCount = MethodCount {
 
 // At each limit and one above it: the stage, the changes of the one lead, the greatest length, the parts, how many
 // counts and how many patterns, and the fault.
-const EDGES: [(&str, u8, usize, i64, i64, usize, usize, Option<PartFault>); 8] = [
+const EDGES: &[(&str, u8, usize, i64, i64, usize, usize, Option<PartFault>)] = &[
     ("128 changes", 4, 128, 24, 1, 0, 0, None),
     (
         "129 changes",
@@ -170,7 +173,7 @@ const PLAIN: Count = Count { mark: b'p', ..BOBS };
 
 #[test]
 fn limits_and_one_above(rt: HostRuntime) -> Result<(), Fail> {
-    for (name, stage, changes, max, parts, counts, patterns, wrong) in EDGES {
+    for &(name, stage, changes, max, parts, counts, patterns, wrong) in EDGES {
         let stage = stage_of(stage)?;
         let leads = leads_of(&rt, stage, &[LeadRow(0, b'p', changes)])?;
         let mut query = query_of(
@@ -236,7 +239,7 @@ const ALL_WRONG: Draft = Draft {
     com: Some(Com { min: 2, max: 1 }),
 };
 
-const ORDER: [PartFault; 10] = [
+const ORDER: &[PartFault] = &[
     PartFault::Letters(0),
     PartFault::Leads(0),
     PartFault::Steps(25),
