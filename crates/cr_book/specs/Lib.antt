@@ -4,3 +4,4 @@ pub mod Leads
 pub mod Measures
 pub mod Dealt
 pub mod Buckets
+pub mod Pieces

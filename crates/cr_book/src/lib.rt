@@ -6,6 +6,7 @@ mod fault;
 pub mod laws;
 mod lengths;
 mod order;
+mod pieces;
 mod reading;
 mod sharing;
 mod steps;
@@ -14,6 +15,7 @@ mod texts;
 
 pub use fault::CallingFault;
 pub use order::sort_found;
+pub use pieces::book_pieces;
 pub use reading::read_calling;
 pub use sharing::sort_found_by;
 pub use summary::summary_text;
