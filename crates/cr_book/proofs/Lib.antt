@@ -5,5 +5,6 @@ pub mod WrongPlaces
 pub mod Sorting
 pub mod Tallies
 pub mod Dealing
-pub mod Buckets
-pub mod Chunks
+pub mod EachMade
+pub mod Parts
+pub mod Lines

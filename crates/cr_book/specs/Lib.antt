@@ -3,5 +3,6 @@ pub mod Reads
 pub mod Leads
 pub mod Measures
 pub mod Dealt
-pub mod Buckets
+pub mod Runs
 pub mod Pieces
+pub mod Lines

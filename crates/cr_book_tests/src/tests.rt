@@ -1,11 +1,10 @@
 //! What no clause says: printed texts, and each call once with ample memory.
 
-ghost use Rattle.std.specs.Prelude.{IsTrue, All, IfOk};
+ghost use Rattle.std.specs.Prelude.{◌<◌, IsTrue, All, IfOk};
 ghost use Rattle.cr_model.specs.Callings.{HasSteps};
 
 use cr_book::{
-    CallingFault, book_text, book_text_by, calling_text, read_calling, sort_found, sort_found_by,
-    summary_text,
+    CallingFault, book_pieces, book_text, calling_text, read_calling, sort_found, summary_text,
 };
 use cr_model::{Calling, Lead, Problem, Query, Step};
 use cr_row::{Change, Stage};
@@ -234,32 +233,99 @@ fn found_touches_are_sorted(rt: HostRuntime) -> Result<(), Fail> {
     Ok(())
 }
 
-// Seven or eight digits of a number in base 3, the last one first.
+// The text that some pieces are, one after another.
+fn joined(alloc: Global, pieces: &[Vec<u8>]) -> Result<Vec<u8>, Fail> {
+    let mut text = Vec::new(alloc);
+    for piece in pieces {
+        text.extend_from_slice(piece)?;
+    }
+    Ok(text)
+}
+
+// They are callings of a problem.
+fn known_callings(
+    alloc: Global,
+    problem: &Problem,
+    rows: &[&[u8]],
+) -> Result<Vec<Calling>, Fail>
+    ensures { IfOk result (λ callings. All (HasSteps problem.now) callings.items) }
+{
+    let callings = callings_of(alloc, rows)?;
+    if !all_known(problem, &callings) {
+        return Err(Fail::from("the steps exist"));
+    }
+    Ok(callings)
+}
+
+#[test]
+fn found_touches_are_printed(rt: HostRuntime) -> Result<(), Fail> {
+    let alloc = rt.alloc();
+    let problem = problem_of(alloc, DOUBLES)?;
+    for threads in [0, 1, 3, 8] {
+        for &(rows, want) in SORTINGS {
+            let found = known_callings(alloc, &problem, rows)?;
+            let pieces = book_pieces(&rt, alloc, threads, &problem, found)?;
+            if joined(alloc, &pieces)?.as_slice() != want.as_bytes() {
+                return Err(Fail::from(want));
+            }
+        }
+    }
+    Ok(())
+}
+
+// Eight digits of a number in base 3, and one more where it is odd.
 fn digits(alloc: Global, number: usize) -> Result<Vec<u8>, Fail> {
     let mut digits = Vec::new(alloc);
     let mut rest = number;
-    for _ in 0..7 + number % 2 {
+    for _ in 0..8 {
         digits.push((rest % 3) as u8)?;
         rest /= 3;
+    }
+    digits.reverse();
+    if number % 2 == 1 {
+        digits.push(0)?;
     }
     Ok(digits)
 }
 
-// 6,000 lists of steps in no order, some of them twice.
-fn many_steps(alloc: Global) -> Result<Vec<Vec<u8>>, Fail> {
+// The order in which 6,000 touches are found.
+#[derive(Clone, Copy)]
+enum Order {
+    Ascending,
+    // Six runs, the last one first.
+    SixRuns,
+    // Two runs that alternate.
+    TwoRuns,
+    Mixed,
+}
+
+// Which of them, counted as they ascend, is found at a place.
+fn number_at(order: Order, place: usize) -> usize
+    requires { place < 6000 }
+{
+    match order {
+        Order::Ascending => place,
+        Order::SixRuns => 5_000 - place / 1_000 * 1_000 + place % 1_000,
+        Order::TwoRuns => place * 2 % 6_000 + place / 3_000,
+        Order::Mixed => place * 7_919 % 6_000,
+    }
+}
+
+// 6,000 lists of steps in an order.
+fn many_steps(alloc: Global, order: Order) -> Result<Vec<Vec<u8>>, Fail> {
     let mut many = Vec::new(alloc);
-    for index in 0..6_000 {
-        many.push(digits(alloc, index * 7_919 % 6_000)?)?;
+    for place in 0..6_000 {
+        many.push(digits(alloc, number_at(order, place))?)?;
     }
     Ok(many)
 }
 
 // They are callings of a problem.
-fn many_callings(alloc: Global, problem: &Problem) -> Result<Vec<Calling>, Fail>
+fn many_callings(alloc: Global, problem: &Problem, order: Order) -> Result<Vec<Calling>, Fail>
     ensures { IfOk result (λ callings. All (HasSteps problem.now) callings.items) }
 {
     let mut callings = Vec::new(alloc);
-    for steps in many_steps(alloc)? {
+    for steps in many_steps(alloc, order)? {
         match Calling::new(steps) {
             Ok(calling) => callings.push(calling)?,
             Err(_) => return Err(Fail::from("there are few steps")),
@@ -271,37 +337,32 @@ fn many_callings(alloc: Global, problem: &Problem) -> Result<Vec<Calling>, Fail>
     Ok(callings)
 }
 
-fn have_steps(callings: &[Calling], wanted: &[Vec<u8>]) -> bool {
-    callings.len() == wanted.len()
-        && callings
-            .iter()
-            .zip(wanted)
-            .all(|(calling, steps)| calling.steps() == steps.as_slice())
-}
-
-#[test]
-fn threads_sort_as_one_does(rt: HostRuntime) -> Result<(), Fail> {
-    let alloc = rt.alloc();
-    let problem = problem_of(alloc, MINOR)?;
-    let mut wanted = many_steps(alloc)?;
-    wanted.sort_by(|one, other| one.len().cmp(&other.len()).then_with(|| one.cmp(other)))?;
-    for threads in [0, 1, 2, 3, 4, 7] {
-        let found = many_callings(alloc, &problem)?;
-        let sorted = sort_found_by(&rt, alloc, threads, &problem, found)?;
-        assert!(rt; have_steps(&sorted, &wanted));
+// Their book.
+fn book_of_many(alloc: Global, problem: &Problem) -> Result<Vec<u8>, Fail> {
+    let found = many_callings(alloc, problem, Order::Ascending)?;
+    let sorted = sort_found(alloc, problem, found)?;
+    if !all_known(problem, &sorted) {
+        return Err(Fail::from("the sorted steps exist"));
     }
-    Ok(())
+    Ok(book_text(alloc, problem, &sorted)?)
 }
 
 #[test]
 fn threads_print_as_one_does(rt: HostRuntime) -> Result<(), Fail> {
     let alloc = rt.alloc();
     let problem = problem_of(alloc, MINOR)?;
-    let book = many_callings(alloc, &problem)?;
-    let wanted = book_text(alloc, &problem, &book)?;
-    for threads in [0, 1, 2, 3, 7] {
-        let text = book_text_by(&rt, alloc, threads, &problem, &book)?;
-        assert!(rt; text.as_slice() == wanted.as_slice());
+    let wanted = book_of_many(alloc, &problem)?;
+    for order in [
+        Order::Ascending,
+        Order::SixRuns,
+        Order::TwoRuns,
+        Order::Mixed,
+    ] {
+        for threads in [0, 1, 3, 8] {
+            let found = many_callings(alloc, &problem, order)?;
+            let pieces = book_pieces(&rt, alloc, threads, &problem, found)?;
+            assert!(rt; joined(alloc, &pieces)?.as_slice() == wanted.as_slice());
+        }
     }
     Ok(())
 }

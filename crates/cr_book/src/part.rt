@@ -1,0 +1,8 @@
+//! Parts of lists.
+
+/// A part of a list, from a place up to another.
+#[derive(Clone, Copy)]
+pub struct Part {
+    pub start: usize,
+    pub end: usize,
+}
