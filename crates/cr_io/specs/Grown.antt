@@ -1,6 +1,7 @@
 -- Bytes that are appended to a sink.
-use Rattle.std.specs.Prelude.{◌≡◌, ℕ, ◌<◌, ◌≤◌, ⊤, List, [], ◌++◌, length, take}
+use Rattle.std.specs.Prelude.{◌≡◌, ℕ, ◌<◌, ◌≤◌, ⊤, List, [], ◌++◌, length, take, flat_map}
 use Rattle.std.specs.Prelude.{Option, Some, None, Result, IfOk, MatchResult}
+use Rattle.std.specs.Global.{Vec}
 
 -- told bytes grew by these; a sink that tells nothing tells nothing later
 abbrev pub Grows : Option (List ℕ) → Option (List ℕ) → List ℕ → Type 0
@@ -26,3 +27,7 @@ TakesSome result piece = IfOk result (λ n. (n ≤ length piece) × (0 < length 
 -- a front of the text was appended, and not the whole text
 abbrev pub GrowsByFront : {S : Type 0} → (S → S → List ℕ → Type 0) → S → S → List ℕ → Type 0
 GrowsByFront grew old new text = (n : ℕ) × (n < length text) × grew old new (take n text)
+
+-- pieces one after another
+abbrev pub joined : List (Vec ℕ) → List ℕ
+joined pieces = flat_map (λ piece. piece.items) pieces

@@ -25,7 +25,7 @@ pub use reading::{ReadEnd, read_all, read_all_counted};
 pub use stored::{MemSink, SureSink};
 pub use supplied::{MemSource, SureSource};
 use thiserror::Error;
-pub use writing::{WriteFault, write_whole};
+pub use writing::{WriteFault, write_pieces, write_whole};
 
 /// A call of the outside failed.
 #[derive(Debug, Drop, Clone, Copy, PartialEq, Eq, Error)]

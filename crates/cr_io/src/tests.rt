@@ -160,6 +160,59 @@ fn writes_until_a_fault(rt: HostRuntime) -> Result<(), Fail> {
     Ok(())
 }
 
+// Which case it is, the pieces, which call fails, whether all is written, and what is written. A call
+// takes two bytes at most.
+const PIECEWISE: &[(&str, [&str; 3], u64, bool, &str)] = &[
+    ("all in turn", ["abc", "d", "ef"], 5, true, "abcdef"),
+    ("the last call fails", ["abc", "d", "ef"], 4, false, "abcd"),
+    (
+        "the second piece fails at once",
+        ["abc", "def", "g"],
+        3,
+        false,
+        "abc",
+    ),
+    (
+        "the second piece fails within",
+        ["abc", "def", "g"],
+        4,
+        false,
+        "abcde",
+    ),
+    ("empty pieces make no call", ["", "ab", ""], 2, true, "ab"),
+    ("after an empty piece", ["a", "", "b"], 2, false, "a"),
+    ("nothing", ["", "", ""], 1, true, ""),
+];
+
+#[test]
+fn writes_pieces_until_a_fault(rt: HostRuntime) -> Result<(), Fail> {
+    let alloc = rt.alloc();
+    for &(name, texts, fail, whole, written) in PIECEWISE {
+        let pieces = pieces_of(alloc, &texts)?;
+        let mut sink = MemSink::new(alloc, Vec::from_slice(alloc, &[fail])?, 2);
+        let is_whole = write_pieces(&mut sink, &pieces).is_ok();
+        holds(
+            name,
+            is_whole == whole && sink.bytes() == Some(written.as_bytes()),
+        )?;
+    }
+    let mut sink = MemSink::new(alloc, Vec::from_slice(alloc, &[1])?, 2);
+    let is_whole = write_pieces(&mut sink, &[]).is_ok();
+    holds(
+        "no piece makes no call",
+        is_whole && sink.bytes() == Some([].as_slice()),
+    )
+}
+
+// The texts as pieces.
+fn pieces_of(alloc: Global, texts: &[&str]) -> Result<Vec<Vec<u8>>, AllocError> {
+    let mut pieces = Vec::new(alloc);
+    for text in texts {
+        pieces.push(Vec::from_slice(alloc, text.as_bytes())?)?;
+    }
+    Ok(pieces)
+}
+
 // Which case it is, and the length of a piece that is written at one call.
 const PIECES: &[(&str, usize)] = &[
     ("an empty piece", 0),

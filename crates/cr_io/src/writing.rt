@@ -1,8 +1,8 @@
-//! Writing a text whole.
+//! Writing a text whole, in one piece or in several.
 
 ghost use Rattle.std.specs.Prelude.{◌≤◌, OnOk, OnErr};
 ghost use Rattle.cr_io.specs.Causes.{Rose};
-ghost use Rattle.cr_io.specs.Grown.{GrowsByFront};
+ghost use Rattle.cr_io.specs.Grown.{GrowsByFront, joined};
 
 use crate::{Failed, Sink};
 use thiserror::Error;
@@ -26,6 +26,20 @@ pub fn write_whole<K: Sink>(sink: &mut K, text: &[u8]) -> Result<(), WriteFault>
             Ok(count) => done += count,
             Err(Failed) => return Err(WriteFault),
         }
+    }
+    Ok(())
+}
+
+/// Appends all pieces, one after another. `WriteFault` comes only where the sink's count of faults
+/// rose in this call, and then a front of the pieces joined was appended. It takes no memory.
+pub fn write_pieces<K: Sink>(sink: &mut K, pieces: &[Vec<u8>]) -> Result<(), WriteFault>
+    ensures whole { OnOk result (K.grew sink.old sink.new (joined pieces.now)) }
+    ensures front { OnErr result (GrowsByFront K.grew sink.old sink.new (joined pieces.now)) }
+    ensures fault { OnErr result (Rose (K.faults sink.old) (K.faults sink.new)) }
+    ensures later { K.faults sink.old ≤ K.faults sink.new }
+{
+    for piece in pieces {
+        write_whole(sink, piece)?;
     }
     Ok(())
 }

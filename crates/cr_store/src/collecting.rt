@@ -14,17 +14,16 @@ ghost use Rattle.cr_store.specs.Written.{lists, nodes_held, board_jobs};
 use cr_board::laws::partitions_follow_one_another;
 use cr_board::{Board, LaneJob};
 use cr_book::laws::what_is_sorted_is_the_book;
-use cr_book::{sort_found, sort_found_by};
+use cr_book::sort_found;
 use cr_model::{Calling, Problem};
 use cr_node::Node;
 use cr_row::NoMemory;
 use std::alloc::Global;
-use std::thread::Threads;
 
 /// What is left of a search: the touches that it found, and the jobs that it has.
 #[derive(Drop)]
 pub struct Left {
-    /// The found touches, ascending by length and then by calling.
+    /// The found touches. What this crate gives has them ascending by length and then by calling.
     pub found: Vec<Calling>,
     /// The jobs, each a list of nodes that is not empty.
     pub jobs: Vec<Vec<Node>>,
@@ -43,40 +42,14 @@ pub fn left_of(alloc: Global, board: Board) -> Result<Left, NoMemory>
     let parts = board.into_parts(alloc)?;
     let found = parts.found;
     let jobs = parts.jobs;
-    let left = left_by_one(alloc, parts.opening.problem(), found, jobs)?;
+    let left = left_in_order(alloc, parts.opening.problem(), found, jobs)?;
     Ok(left)
 }
 
 /// What is left of a search that found these touches and has these jobs, with the touches in the book's order. They are
 /// moved, and not copied. Where the search went on from other found touches and jobs, a search can go on from there, and
-/// covers the same. At most so many threads do it. Err where no memory is left.
-pub fn left_in_order<R: Threads + Sync>(
-    rt: &R,
-    alloc: Global,
-    threads: usize,
-    problem: &Problem,
-    found: Vec<Calling>,
-    jobs: Vec<Vec<Node>>,
-) -> Result<Left, NoMemory>
-    requires { All (Kept problem.now) found.items }
-    ensures jobs { IfOk result (λ left. lists left.jobs.items ≡ lists jobs.items) }
-    ensures found { IfOk result (λ left. IsPermutation found.items left.found.items) }
-    ensures goes_on { IfOk result (λ left. (before : List (List ℕ)) (begun : List (List (List ℕ))) (spent : ℕ)
-        → WentOn problem.now before begun found.items (lists jobs.items) spent
-        → CanGoOn problem.now left.found.items (lists left.jobs.items)) }
-    ensures covers { IfOk result (λ left. (before : List (List ℕ)) (begun : List (List (List ℕ))) (spent : ℕ)
-        → WentOn problem.now before begun found.items (lists jobs.items) spent → (calling : List ℕ)
-        → Covers problem.now left.found.items (nodes_of_jobs (lists left.jobs.items)) calling
-        ↔ Covers problem.now before (nodes_of_jobs begun) calling) }
-{
-    partitions_follow_one_another();
-    what_is_sorted_is_the_book();
-    let found = sort_found_by(rt, alloc, threads, problem, found)?;
-    Ok(Left { found, jobs })
-}
-
-// The same by one thread, which needs no runtime.
-fn left_by_one(
+/// covers the same. Err where no memory is left.
+pub fn left_in_order(
     alloc: Global,
     problem: &Problem,
     found: Vec<Calling>,
@@ -107,7 +80,7 @@ pub fn copy_left_of(alloc: Global, board: &Board) -> Result<Left, NoMemory>
 {
     let found = copy_callings(alloc, board.found())?;
     let jobs = jobs_of(alloc, board)?;
-    let left = left_by_one(alloc, board.opening().problem(), found, jobs)?;
+    let left = left_in_order(alloc, board.opening().problem(), found, jobs)?;
     Ok(left)
 }
 

@@ -1,11 +1,11 @@
 -- Searches that go on from what others left.
 use Rattle.std.proofs.Common.{◌≡◌, ℕ, zero, suc, ◌+◌, ◌-◌, ◌<◌, ◌≤◌, ◌⊎◌, List, [], ◌∷◌, length, Option, Some, None, Ordering, inl, inr, refl, sym, ap, ◌∙◌, subst, arith}
-use Rattle.std.specs.Prelude.{◌++◌, All, Contains, ◌↔◌, sum_by, map}
-use Rattle.std.specs.List.Sorted.{IsStrictlySortedBy}
+use Rattle.std.specs.Prelude.{◌++◌, All, sum_by, map}
+use Rattle.std.specs.List.Sorted.{IsPermutation, IsSorted, IsStrictlySortedBy}
 use Rattle.std.proofs.lemmas.List.Elements.{All-nil, All-map}
 use Rattle.cr_model.specs.Problems.{ProblemParts}
 use Rattle.cr_model.specs.Touches.{Kept}
-use Rattle.cr_model.specs.Nodes.{IsValid, Independent, Covers}
+use Rattle.cr_model.specs.Nodes.{IsValid, Independent, nodes_above, times_found}
 use Rattle.cr_model.specs.Books.{IsBook, book_order}
 use Rattle.cr_model.specs.Sizes.{most_rows, size, size_of_all, live_children}
 use Rattle.cr_model.specs.Sound.{IsSound}
@@ -18,28 +18,30 @@ use Rattle.cr_board.specs.declared.entry.Entry.{Entry}
 use Rattle.cr_run.specs.Runs.{HasEnded}
 use Rattle.cr_store.specs.Searches.{WentOn}
 use Rattle.cr_store.specs.Written.{board_jobs}
-use Rattle.cr_top.specs.Runs.{size_of_jobs, GoesOnTo, KeepsTo, RunsTo, BoardRan, UnderWay, board_turns, turns_after}
+use Rattle.cr_top.specs.Runs.{size_of_jobs, KeepsTo, RunsTo, BoardRan, UnderWay, board_turns, turns_after}
 
-kept_of : (p : ProblemParts) (found : List (List ℕ)) (calling : List ℕ) → All (Kept p) found → Contains found calling → Kept p calling
-kept_of p found calling kept has = subst (Kept p) has.2 (kept has.0 calling has.1)
+-- what the law on what was found whole says, and the one on touches that are covered
+abbrev pub FoundWhole : Type 0
+FoundWhole = (p : ProblemParts) (before nodes found sorted : List (List ℕ)) → All (Kept p) found
+    → ((calling : List ℕ) → Kept p calling → times_found found calling ≡ times_found before calling + nodes_above p nodes calling)
+    → ((calling : List ℕ) → Kept p calling → times_found before calling + nodes_above p nodes calling ≤ 1)
+    → IsPermutation found sorted → IsSorted (book_order p) sorted → IsBook p before nodes sorted
 
--- nothing is reached from no node
-from_found : (p : ProblemParts) (found : List (List ℕ)) (calling : List ℕ) → Covers p found [] calling → Contains found calling
-from_found p found calling covered = elim covered.reached [
-  | inl has ↦ has
-  | inr node ↦ absurd (omega (arith, node.1.1))
-]
+abbrev pub CoveredOnce : Type 0
+CoveredOnce = (p : ProblemParts) (found : List (List ℕ)) (jobs : List (List (List ℕ))) → CanGoOn p found jobs → (calling : List ℕ)
+    → times_found found calling + nodes_above p (nodes_of_jobs jobs) calling ≤ 1
 
--- where nothing is left, what was found is the book of what was to be searched
-pub book_found : (p : ProblemParts) (found nodes now : List (List ℕ)) → CanGoOn p now []
-    → ((calling : List ℕ) → Covers p now [] calling ↔ Covers p found nodes calling) → IsBook p found nodes now
-book_found p found nodes now on covers = record {
-  ascending = on.ascending;
-  covered = λ calling. (
-    (λ has. (covers calling).0 (record { kept = kept_of p now calling on.kept has; reached = inl has })),
-    (λ covered. from_found p now calling ((covers calling).1 covered)),
-  );
-}
+-- where no job is left, what was found is in order the book of what was to be searched
+pub book_found : FoundWhole → CoveredOnce → (p : ProblemParts) (found : List (List ℕ)) (jobs : List (List (List ℕ)))
+    (now : List (List ℕ)) (left : List (List (List ℕ))) (used : ℕ) → WentOn p found jobs now left used → left ≡ []
+    → (book : List (List ℕ)) → IsPermutation now book → IsSorted (book_order p) book → IsBook p found (nodes_of_jobs jobs) book
+book_found whole once p found jobs now left used way none book same up =
+    whole p found (nodes_of_jobs jobs) now book way.nodes.kept each (λ calling kept. once p found jobs way.began calling) same up
+  where
+    each : (calling : List ℕ) → Kept p calling → times_found now calling ≡ times_found found calling + nodes_above p (nodes_of_jobs jobs) calling
+    each calling kept =
+        let nothing : nodes_above p (nodes_of_jobs left) calling ≡ 0 = ap (λ js. nodes_above p (nodes_of_jobs js) calling) none in
+        omega (arith, nothing, way.nodes.each calling kept)
 
 -- what the law on partitions says of their beginning, and of one after another
 abbrev Begun : Type 0
@@ -124,28 +126,15 @@ module _ (p : ProblemParts) (found : List (List ℕ)) (jobs : List (List (List �
       let none : most - used ≡ 0 = cc in
       ap Some (omega (arith, none, keeps))
 
-  -- what is left in order goes on, and covers the same
-  abbrev GoesOnSorted : ProblemParts → List (List ℕ) → List (List (List ℕ)) → List (List ℕ) → List (List (List ℕ)) → Type 0
-  GoesOnSorted q now left sorted after = (before : List (List ℕ)) (begun : List (List (List ℕ))) (spent : ℕ) → WentOn q before begun now left spent → CanGoOn q sorted after
-
-  abbrev CoversSorted : ProblemParts → List (List ℕ) → List (List (List ℕ)) → List (List ℕ) → List (List (List ℕ)) → Type 0
-  CoversSorted q now left sorted after = (before : List (List ℕ)) (begun : List (List (List ℕ))) (spent : ℕ) → WentOn q before begun now left spent
-      → (calling : List ℕ) → Covers q sorted (nodes_of_jobs after) calling ↔ Covers q before (nodes_of_jobs begun) calling
-
-  -- no job is left, or no turn is allowed, and what was found is sorted
-  pub is_run : (q : ProblemParts) (now sorted : List (List ℕ)) (left after : List (List (List ℕ))) (allowed : Option ℕ) → q ≡ p → after ≡ left
-      → GoesOnSorted q now left sorted after → CoversSorted q now left sorted after
-      → UnderWay p found jobs turns now left allowed → (left ≡ []) ⊎ (allowed ≡ Some 0) → RunsTo p found jobs turns sorted after
-  is_run q now sorted left after allowed same is on covers way over = record {
+  -- no job is left, or no turn is allowed
+  pub is_run : (now : List (List ℕ)) (left : List (List (List ℕ))) (allowed : Option ℕ) → UnderWay p found jobs turns now left allowed
+      → (left ≡ []) ⊎ (allowed ≡ Some 0) → RunsTo p found jobs turns now left
+  is_run now left allowed way over = record {
     used = way.used;
-    on = record {
-      goes_on = subst (λ r. GoesOnSorted r now left sorted after) same on found jobs way.used way.way;
-      covers = subst (λ r. CoversSorted r now left sorted after) same covers found jobs way.used way.way;
-      size = ap (λ js. size_of_jobs p js + way.used) is ∙ way.way.nodes.size;
-    };
+    way = way.way;
     keeps = way.keeps;
     ends = elim over [
-      | inl none ↦ inl (is ∙ none)
+      | inl none ↦ inl none
       | inr none ↦ inr (all_used turns way.used way.keeps (sym way.rest ∙ none))
     ];
   }

@@ -1,19 +1,18 @@
 -- The book or the checkpoint of a search that went on until no job was left or the turns that are allowed were used.
 use Rattle.std.proofs.Common.{◌≡◌, ℕ, zero, suc, ◌<◌, ◌⊎◌, List, [], ◌∷◌, length, Option, Some, None, inl, inr, refl, sym, ap, ◌∙◌, subst, arith}
-use Rattle.std.specs.Prelude.{All, ◌↔◌}
-use Rattle.std.specs.List.Sorted.{IsStrictlySortedBy}
-use Rattle.std.specs.declared.cmp.Ordering.{Ordering}
+use Rattle.std.specs.Prelude.{All}
+use Rattle.std.specs.List.Sorted.{IsPermutation, IsSorted}
 use Rattle.cr_model.specs.Problems.{ProblemParts}
-use Rattle.cr_model.specs.Nodes.{Covers}
-use Rattle.cr_model.specs.Books.{IsBook, book_order, book_text}
+use Rattle.cr_model.specs.Books.{IsBook, book_order}
 use Rattle.cr_model.specs.Sizes.{most_rows, size_of_all}
 use Rattle.cr_model.specs.ProblemFiles.{ProblemFile}
 use Rattle.cr_node.specs.Work.{IsJob}
 use Rattle.cr_model.specs.Checkpoints.{CanGoOn, CheckFile, IsCheckpoint, checkpoint_text, nodes_of_jobs}
 use Rattle.cr_top.specs.Runs.{size_of_jobs, KeepsTo, RunsTo, StopsAfter}
-use Rattle.cr_top.specs.Texts.{IsBookOf, IsStopOf, IsReached, IsTextAfter}
+use Rattle.cr_book.specs.Pieces.{IsTextOfFound}
+use Rattle.cr_top.specs.Texts.{IsBookOf, IsStopOf, IsReached, IsTextAfter, IsStopText, GoesOnOrdered, CoversOrdered}
 use Rattle.cr_top.specs.Starts.{IsStart}
-use Rattle.cr_top.proofs.Going.{book_found, none_ascend, some_jobs}
+use Rattle.cr_top.proofs.Going.{FoundWhole, CoveredOnce, book_found, none_ascend, some_jobs}
 
 -- a checkpoint's text begins as one
 pub checkpoint_begins : (p : ProblemParts) (bytes text : List ℕ) (found : List (List ℕ)) (jobs : List (List (List ℕ)))
@@ -23,26 +22,25 @@ checkpoint_begins p bytes text found jobs is = subst IsCheckpoint (sym is) refl
 module _ (input bytes : List ℕ) (p : ProblemParts) (found : List (List ℕ)) (jobs : List (List (List ℕ))) (turns : Option ℕ)
     (now : List (List ℕ)) (left : List (List (List ℕ))) (start : IsStart input bytes p found jobs) (run : RunsTo p found jobs turns now left) where
   -- where no job is left
-  pub finished : (text : List ℕ) → left ≡ [] → text ≡ book_text p now
-      → ((p : ProblemParts) (most : ℕ) → size_of_all p most [] ≡ 0) → IsBookOf turns input text
-  finished text none is nothing = record {
+  pub finished : FoundWhole → CoveredOnce → ((p : ProblemParts) (most : ℕ) → size_of_all p most [] ≡ 0) → (text : List ℕ)
+      → left ≡ [] → IsTextOfFound p now text → IsBookOf turns input text
+  finished law once nothing text none is = record {
     bytes = bytes;
     p = p;
     found = found;
     nodes = nodes_of_jobs jobs;
     of_input = start.of_input;
     keeps = subst (KeepsTo turns) whole run.keeps;
-    book = now;
-    is_book = book_found p found (nodes_of_jobs jobs) now (subst (CanGoOn p now) none run.on.goes_on)
-        (subst (λ rest. (calling : List ℕ) → Covers p now (nodes_of_jobs rest) calling ↔ Covers p found (nodes_of_jobs jobs) calling) none run.on.covers);
-    is = is;
+    book = is.book;
+    is_book = book_found law once p found jobs now left run.used run.way none is.book is.same is.ascending;
+    is = is.is;
   }
     where
       whole : run.used ≡ size_of_jobs p jobs
-      whole = omega (arith, run.on.size, ap (size_of_jobs p) none, nothing p most_rows)
+      whole = omega (arith, run.way.nodes.size, ap (size_of_jobs p) none, nothing p most_rows)
 
   -- where some job is
-  pub stopped : (text : List ℕ) (after : ℕ) → (left ≡ [] → ⊥) → turns ≡ Some after → text ≡ checkpoint_text p bytes now left
+  pub stopped : (text : List ℕ) (after : ℕ) → (left ≡ [] → ⊥) → turns ≡ Some after → IsStopText p bytes now left text
       → IsStopOf after input text
   stopped text after some allowed is = record {
     same = record {
@@ -50,22 +48,22 @@ module _ (input bytes : List ℕ) (p : ProblemParts) (found : List (List ℕ)) (
       p = p;
       found = found;
       nodes = nodes_of_jobs jobs;
-      other_found = now;
+      other_found = is.ordered;
       other_nodes = nodes_of_jobs left;
       input = start.of_input;
       other_input = inl (record {
-        begins = checkpoint_begins p bytes text now left is;
+        begins = checkpoint_begins p bytes text is.ordered left is.is;
         jobs = left;
-        file = record { problem = start.file; is = inl is; goes_on = run.on.goes_on };
+        file = record { problem = start.file; is = inl is.is; goes_on = is.goes_on found jobs run.used run.way };
         nodes_are = refl;
       });
-      covers = λ calling. ((run.on.covers calling).1, (run.on.covers calling).0);
+      covers = λ calling. let both = is.covers found jobs run.used run.way calling in (both.1, both.0);
     };
     jobs = left;
     nodes_are = refl;
-    is = is;
-    some = some_jobs left run.on.goes_on.filled some;
-    size = omega (arith, run.on.size, used);
+    is = is.is;
+    some = some_jobs left run.way.filled some;
+    size = omega (arith, run.way.nodes.size, used);
   }
     where
       used : run.used ≡ after
@@ -84,22 +82,26 @@ all_done p found jobs now left run = elim run.ends [
 
 module _ (input bytes : List ℕ) (p : ProblemParts) (found : List (List ℕ)) (jobs : List (List (List ℕ))) (turns : Option ℕ)
     (now : List (List ℕ)) (left : List (List (List ℕ))) (start : IsStart input bytes p found jobs) (run : RunsTo p found jobs turns now left)
-    (nothing : (p : ProblemParts) (most : ℕ) → size_of_all p most [] ≡ 0) where
+    (law : FoundWhole) (once : CoveredOnce) (nothing : (p : ProblemParts) (most : ℕ) → size_of_all p most [] ≡ 0) where
   none_left : (left ≡ []) ⊎ (turns ≡ None) → left ≡ []
   none_left (inl none) = none
   none_left (inr all) = all_done p found jobs now left (subst (λ ts. RunsTo p found jobs ts now left) all run)
 
-  book_reached : (text : List ℕ) → StopsAfter left turns None → text ≡ book_text p now → IsReached turns input text None
-  book_reached text stops is = finished input bytes p found jobs turns now left start run text (none_left stops) is nothing
-
-  checkpoint_reached : (text : List ℕ) (after : ℕ) → StopsAfter left turns (Some after) → text ≡ checkpoint_text p bytes now left
-      → IsReached turns input text (Some after)
-  checkpoint_reached text after stops is = (stops.1, stopped input bytes p found jobs turns now left start run text after stops.0 stops.1 is)
-
   pub reached : (text : List ℕ) (stopped : Option ℕ) → StopsAfter left turns stopped → IsTextAfter p bytes now left stopped text
       → IsReached turns input text stopped
-  reached text None stops is = book_reached text stops is
-  reached text (Some after) stops is = checkpoint_reached text after stops is
+  reached text None stops is = finished input bytes p found jobs turns now left start run law once nothing text (none_left stops) is
+  reached text (Some after) stops is = (stops.1, stopped input bytes p found jobs turns now left start run text after stops.0 stops.1 is)
+
+-- the checkpoint of what is left and in order
+pub stop_text : (p : ProblemParts) (bytes : List ℕ) (found : List (List ℕ)) (jobs : List (List (List ℕ))) (ordered : List (List ℕ))
+    (left : List (List (List ℕ))) (text : List ℕ) → left ≡ jobs → GoesOnOrdered p found jobs ordered left → CoversOrdered p found jobs ordered left
+    → text ≡ checkpoint_text p bytes ordered left → IsStopText p bytes found jobs text
+stop_text p bytes found jobs ordered left text same on covers is = record {
+  ordered = ordered;
+  goes_on = subst (GoesOnOrdered p found jobs ordered) same on;
+  covers = subst (CoversOrdered p found jobs ordered) same covers;
+  is = is ∙ ap (checkpoint_text p bytes ordered) same;
+}
 
 -- a search that has not begun goes on from the root
 root_filled : All (λ (job : List (List ℕ)). 0 < length job) (([] ∷ []) ∷ [])
@@ -135,12 +137,8 @@ resumed_start input bytes p found jobs begins file = record {
 }
 
 -- the book of a search of all that a problem wants
-pub whole_book : (p : ProblemParts) (found : List (List ℕ)) (jobs : List (List (List ℕ))) (now : List (List ℕ)) (left : List (List (List ℕ)))
-    → found ≡ [] → jobs ≡ ([] ∷ []) ∷ [] → RunsTo p found jobs None now left → IsBook p [] ([] ∷ []) now
-whole_book p found jobs now left none root run =
-    let done : left ≡ [] = all_done p found jobs now left run in
-    let covers : (calling : List ℕ) → Covers p now [] calling ↔ Covers p [] ([] ∷ []) calling =
-    subst (λ rest. (calling : List ℕ) → Covers p now (nodes_of_jobs rest) calling ↔ Covers p [] ([] ∷ []) calling) done
-    (subst (λ js. (calling : List ℕ) → Covers p now (nodes_of_jobs left) calling ↔ Covers p [] (nodes_of_jobs js) calling) root
-    (subst (λ f. (calling : List ℕ) → Covers p now (nodes_of_jobs left) calling ↔ Covers p f (nodes_of_jobs jobs) calling) none run.on.covers)) in
-    book_found p [] ([] ∷ []) now (subst (CanGoOn p now) done run.on.goes_on) covers
+pub whole_book : FoundWhole → CoveredOnce → (p : ProblemParts) (now : List (List ℕ)) (left : List (List (List ℕ)))
+    → RunsTo p [] (([] ∷ []) ∷ []) None now left → (book : List (List ℕ)) → IsPermutation now book → IsSorted (book_order p) book
+    → IsBook p [] ([] ∷ []) book
+whole_book law once p now left run book same up =
+    book_found law once p [] (([] ∷ []) ∷ []) now left run.used run.way (all_done p [] (([] ∷ []) ∷ []) now left run) book same up

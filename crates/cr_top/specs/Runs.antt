@@ -1,9 +1,8 @@
 -- How a search goes on from found touches and jobs, and where it ends.
-use Rattle.std.specs.Prelude.{◌≡◌, ℕ, ◌+◌, ◌<◌, ◌≤◌, ◌⊎◌, ◌↔◌, ◌-◌, ⊤, min, List, [], length, All, Option, Some, None, option_map}
+use Rattle.std.specs.Prelude.{◌≡◌, ℕ, ◌<◌, ◌≤◌, ◌⊎◌, ◌-◌, ⊤, min, List, [], length, All, Option, Some, None, option_map}
 use Rattle.cr_model.specs.Problems.{ProblemParts}
-use Rattle.cr_model.specs.Nodes.{Covers}
 use Rattle.cr_model.specs.Sizes.{most_rows, size_of_all}
-use Rattle.cr_model.specs.Checkpoints.{CanGoOn, nodes_of_jobs}
+use Rattle.cr_model.specs.Checkpoints.{nodes_of_jobs}
 use Rattle.cr_board.specs.Partitions.{IsPartition}
 use Rattle.cr_store.specs.Searches.{WentOn}
 
@@ -11,26 +10,25 @@ use Rattle.cr_store.specs.Searches.{WentOn}
 abbrev pub size_of_jobs : ProblemParts → List (List (List ℕ)) → ℕ
 size_of_jobs p jobs = size_of_all p most_rows (nodes_of_jobs jobs)
 
--- a search can go on from these found touches and jobs, which cover what others covered, and so many turns have made
--- the size of the jobs less
-pub record GoesOnTo (p : ProblemParts) (found : List (List ℕ)) (jobs : List (List (List ℕ)))
-    (now : List (List ℕ)) (left : List (List (List ℕ))) (used : ℕ) : Type 0 where
-  pub goes_on : CanGoOn p now left
-  pub covers : (calling : List ℕ) → Covers p now (nodes_of_jobs left) calling ↔ Covers p found (nodes_of_jobs jobs) calling
-  pub size : size_of_jobs p left + used ≡ size_of_jobs p jobs
-
 -- no more turns were used than are allowed
 abbrev pub KeepsTo : Option ℕ → ℕ → Type 0
 KeepsTo None used = ⊤
 KeepsTo (Some turns) used = used ≤ turns
 
--- a search went on until no job was left or the turns that are allowed were used
+-- a search went on until no job was left or the turns that are allowed were used. What it found is not sorted
 pub record RunsTo (p : ProblemParts) (found : List (List ℕ)) (jobs : List (List (List ℕ))) (turns : Option ℕ)
     (now : List (List ℕ)) (left : List (List (List ℕ))) : Type 0 where
   pub used : ℕ
-  pub on : GoesOnTo p found jobs now left used
+  pub way : WentOn p found jobs now left used
   pub keeps : KeepsTo turns used
   pub ends : (left ≡ []) ⊎ (turns ≡ Some used)
+
+-- some search went on to what was found, which is not sorted, and to the jobs that are left
+pub record IsLeft (p : ProblemParts) (now : List (List ℕ)) (left : List (List (List ℕ))) : Type 0 where
+  pub found : List (List ℕ)
+  pub jobs : List (List (List ℕ))
+  pub used : ℕ
+  pub way : WentOn p found jobs now left used
 
 -- one board, which was opened with the jobs alone, went on until no job was left or its turns were used: what it found
 -- and left is a partition of the jobs, and none that it left is empty

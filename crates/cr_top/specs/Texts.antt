@@ -1,12 +1,15 @@
 -- The text that belongs to an input.
-use Rattle.std.specs.Prelude.{◌≡◌, ℕ, ◌+◌, ◌<◌, ⊤, List, length, Option, Some, None, Result, Ok, Err}
+use Rattle.std.specs.Prelude.{◌≡◌, ℕ, ◌+◌, ◌<◌, ◌↔◌, ⊤, List, length, Option, Some, None, Result, Ok, Err}
 use Rattle.cr_model.specs.Problems.{ProblemParts}
 use Rattle.cr_model.specs.Sizes.{most_rows, size_of_all}
 use Rattle.cr_model.specs.Books.{IsBook, book_text}
 use Rattle.cr_model.specs.ProblemFiles.{FirstProblemFault}
 use Rattle.cr_model.specs.declared.file_fault.ProblemFault.{ProblemFault}
-use Rattle.cr_model.specs.Checkpoints.{IsCheckpoint, checkpoint_text, nodes_of_jobs}
+use Rattle.cr_model.specs.Nodes.{Covers}
+use Rattle.cr_model.specs.Checkpoints.{CanGoOn, IsCheckpoint, checkpoint_text, nodes_of_jobs}
 use Rattle.cr_model.specs.Inputs.{Input, SameCover}
+use Rattle.cr_book.specs.Pieces.{pieces_joined, IsTextOfFound}
+use Rattle.cr_store.specs.Searches.{WentOn}
 use Rattle.cr_store.specs.Faults.{FirstCheckFault}
 use Rattle.cr_store.specs.declared.fault.CheckFault.{CheckFault}
 use Rattle.cr_top.specs.Runs.{KeepsTo}
@@ -53,13 +56,32 @@ IsNoProblem input fault = (IsCheckpoint input → ⊥) × FirstProblemFault inpu
 abbrev pub IsNoCheckpoint : List ℕ → CheckFault → Type 0
 IsNoCheckpoint input fault = IsCheckpoint input × FirstCheckFault input fault
 
+-- where a search went on to these found touches and jobs, one can go on from the touches in this order and the jobs
+abbrev pub GoesOnOrdered : ProblemParts → List (List ℕ) → List (List (List ℕ)) → List (List ℕ) → List (List (List ℕ)) → Type 0
+GoesOnOrdered p found jobs ordered left = (before : List (List ℕ)) (begun : List (List (List ℕ))) (spent : ℕ)
+    → WentOn p before begun found jobs spent → CanGoOn p ordered left
+
+-- and these cover what was covered before it went on
+abbrev pub CoversOrdered : ProblemParts → List (List ℕ) → List (List (List ℕ)) → List (List ℕ) → List (List (List ℕ)) → Type 0
+CoversOrdered p found jobs ordered left = (before : List (List ℕ)) (begun : List (List (List ℕ))) (spent : ℕ)
+    → WentOn p before begun found jobs spent → (calling : List ℕ)
+    → Covers p ordered (nodes_of_jobs left) calling ↔ Covers p before (nodes_of_jobs begun) calling
+
+-- the text is the checkpoint of found touches, put in order, and jobs
+pub record IsStopText (p : ProblemParts) (bytes : List ℕ) (found : List (List ℕ)) (jobs : List (List (List ℕ))) (text : List ℕ) : Type 0 where
+  pub ordered : List (List ℕ)
+  pub goes_on : GoesOnOrdered p found jobs ordered jobs
+  pub covers : CoversOrdered p found jobs ordered jobs
+  pub is : text ≡ checkpoint_text p bytes ordered jobs
+
 -- the text of found touches and jobs: a checkpoint where the search stopped, and else the book
 abbrev pub IsTextAfter : ProblemParts → List ℕ → List (List ℕ) → List (List (List ℕ)) → Option ℕ → List ℕ → Type 0
-IsTextAfter p bytes found jobs None text = text ≡ book_text p found
-IsTextAfter p bytes found jobs (Some after) text = text ≡ checkpoint_text p bytes found jobs
+IsTextAfter p bytes found jobs None text = IsTextOfFound p found text
+IsTextAfter p bytes found jobs (Some after) text = IsStopText p bytes found jobs text
 
+-- the pieces joined are the text that belongs to the input, and the search stopped after so many turns
 abbrev pub IsOutcomeOf : Option ℕ → List ℕ → Outcome → Type 0
-IsOutcomeOf turns input made = IsReached turns input made.text.items made.stopped
+IsOutcomeOf turns input made = IsReached turns input (pieces_joined made.pieces.items) made.stopped
 
 -- the text that was made belongs to the input, or the status says why there is none
 abbrev pub MakesText : Option ℕ → List ℕ → Result Outcome Status → Type 0

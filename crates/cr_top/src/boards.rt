@@ -14,7 +14,7 @@ use cr_node::{Explorer, Node};
 use cr_row::NoMemory;
 use cr_run::laws::boards_at_rest;
 use cr_run::{run_alone, run_workers};
-use cr_store::{Left, left_in_order};
+use cr_store::Left;
 use std::alloc::Global;
 use std::sync::Wait;
 use std::thread::Threads;
@@ -23,8 +23,8 @@ use std::thread::Threads;
 pub const BOARD_TURNS: u64 = 67_108_864;
 
 /// Goes on with a search by so many workers, on boards of at most so many turns each, until no job is left or the turns
-/// that are allowed are used. Each board is opened with the jobs alone: what was found stands aside, in one list, and is
-/// sorted once, at the end. Err where no memory is left.
+/// that are allowed are used. Each board is opened with the jobs alone: what was found stands aside, in one list, behind
+/// what had been found before, and is not sorted. Err where no memory is left.
 pub fn run<R: AllocGlobal + Threads + Wait + Sync, E: Explorer + Sync>(
     rt: &R,
     workers: u32,
@@ -53,8 +53,7 @@ pub fn run<R: AllocGlobal + Threads + Wait + Sync, E: Explorer + Sync>(
         jobs = ran.jobs;
         allowed = without(allowed, ran.used);
     }
-    let now = left_in_order(rt, rt.alloc(), workers as usize, problem, found, jobs)?;
-    Ok(now)
+    Ok(Left { found, jobs })
 }
 
 // Moves what a board found behind what was found before. Where that is nothing, its list is taken as it is.

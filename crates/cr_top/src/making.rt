@@ -1,19 +1,24 @@
 //! The problem that is made of a number, and its summary.
 
-ghost use Rattle.std.specs.Prelude.{◌≡◌, ◌≤◌, [], ◌∷◌, IfOk};
+ghost use Rattle.std.specs.Prelude.{◌≡◌, ◌≤◌, [], ◌∷◌, None, IfOk};
 ghost use Rattle.cr_row.specs.Rows.{IsChange};
 ghost use Rattle.cr_model.specs.Problems.{parts_from};
 ghost use Rattle.cr_model.specs.Sound.{IsSound};
 ghost use Rattle.cr_model.specs.Books.{IsBook};
 ghost use Rattle.cr_model.specs.Examples.{asks, on_six, minor_lead};
+ghost use Rattle.cr_store.specs.Written.{lists};
+ghost use Rattle.cr_top.specs.Runs.{RunsTo};
 ghost use Rattle.cr_top.specs.Made.{made_length, made_problem as problem_made_of, IsSummaryOf};
 
 use crate::boards::{BOARD_TURNS, run};
 use crate::start::all_of;
-use cr_book::summary_text;
+use cr_book::laws::what_was_found_whole_is_the_book;
+use cr_book::{sort_found, summary_text};
 use cr_explore::make_search;
 use cr_model::{Calling, Lead, Problem, Query, Step};
 use cr_row::{Change, NoMemory, Stage};
+use cr_store::Left;
+use cr_store::laws::each_touch_is_covered_once;
 use std::alloc::Global;
 use std::sync::Wait;
 use std::thread::Threads;
@@ -46,11 +51,28 @@ fn book_of<R: AllocGlobal + Threads + Wait + Sync>(
     requires few_workers { workers ≤ 64 }
     ensures { IfOk result (λ book. IsBook problem.now [] ([] ∷ []) book.items) }
 {
+    each_touch_is_covered_once();
+    what_was_found_whole_is_the_book();
+    let left = search_all(rt, workers, problem)?;
+    let book = sort_found(rt.alloc(), problem, left.found)?;
+    Ok(book)
+}
+
+// What is left of a search of all that a problem wants, which is no job. What it found is not sorted.
+fn search_all<R: AllocGlobal + Threads + Wait + Sync>(
+    rt: &R,
+    workers: u32,
+    problem: &Problem,
+) -> Result<Left, NoMemory>
+    requires some_workers { 1 ≤ workers }
+    requires few_workers { workers ≤ 64 }
+    ensures { IfOk result (λ left. RunsTo problem.now [] (([] ∷ []) ∷ []) None left.found.items (lists left.jobs.items)) }
+{
     let alloc = rt.alloc();
     let search = make_search(rt, alloc, problem)?;
     let all = all_of(alloc, problem)?;
     let left = run(rt, workers, &search, all, None, BOARD_TURNS)?;
-    Ok(left.found)
+    Ok(left)
 }
 
 // Plain Bob Minor, with the bob 14 and the single 1234, from 1 to so many changes as the number says.

@@ -1,31 +1,33 @@
 //! The text that belongs to an input.
 
 ghost use Rattle.std.specs.Prelude.{◌≡◌, ◌<◌, ◌≤◌, ℕ, List, IfOk};
-ghost use Rattle.cr_model.specs.Books.{book_text as text_of_book};
 ghost use Rattle.cr_model.specs.Checkpoints.{CanGoOn, checkpoint_text};
 ghost use Rattle.cr_model.specs.ProblemFiles.{ProblemFile};
+ghost use Rattle.cr_book.specs.Pieces.{pieces_joined};
 ghost use Rattle.cr_store.specs.Written.{lists};
 ghost use Rattle.cr_top.specs.Starts.{IsStart};
-ghost use Rattle.cr_top.specs.Runs.{RunsTo, StopsAfter};
-ghost use Rattle.cr_top.specs.Texts.{IsTextAfter, IsOutcomeOf, MakesText};
+ghost use Rattle.cr_top.specs.Runs.{IsLeft, RunsTo, StopsAfter};
+ghost use Rattle.cr_top.specs.Texts.{IsStopText, IsTextAfter, IsOutcomeOf, MakesText};
 
 use crate::Status;
 use crate::boards::run;
 use crate::gate::{Gate, Gated};
 use crate::outcome::Outcome;
 use crate::start::{Start, start_of};
-use cr_book::book_text_by;
+use cr_book::book_pieces;
+use cr_book::laws::what_was_found_whole_is_the_book;
 use cr_explore::make_search;
 use cr_model::Problem;
 use cr_model::laws::sizes_are_sums;
 use cr_row::NoMemory;
-use cr_store::{Left, write_parts};
+use cr_store::laws::each_touch_is_covered_once;
+use cr_store::{Left, left_in_order, write_parts};
 use std::alloc::Global;
 use std::sync::Wait;
 use std::thread::Threads;
 
-/// Searches what an input says, on boards of at most so many turns each, and makes the text that belongs to it: a checkpoint where the turns that are allowed are
-/// too few, and else the book. Or the status with the input's refusal.
+/// Searches what an input says, on boards of at most so many turns each, and makes the text that belongs to it: a checkpoint
+/// where the turns that are allowed are too few, and else the book. Or the status with the input's refusal.
 pub fn text_for<R: AllocGlobal + Threads + Wait + Sync, G: Gate + Sync>(
     rt: &R,
     workers: u32,
@@ -69,10 +71,10 @@ fn searched<R: AllocGlobal + Threads + Wait + Sync, G: Gate + Sync>(
         left,
     } = start;
     let left = run_behind(rt, workers, &problem, left, turns, gate, most)?;
-    written(rt, workers, &problem, &bytes, &left, turns)
+    written(rt, workers, &problem, &bytes, left, turns)
 }
 
-// Goes on with the search of a problem, by an explorer that enters the gate.
+// Goes on with the search of a problem, by an explorer that enters the gate. What is found is not sorted.
 fn run_behind<R: AllocGlobal + Threads + Wait + Sync, G: Gate + Sync>(
     rt: &R,
     workers: u32,
@@ -103,39 +105,22 @@ fn written<R: AllocGlobal + Threads + Sync>(
     workers: u32,
     problem: &Problem,
     bytes: &[u8],
-    left: &Left,
+    left: Left,
     turns: Option<u64>,
 ) -> Result<Outcome, NoMemory>
     requires file { ProblemFile bytes.now problem.now }
-    requires goes_on { CanGoOn problem.now left.now.found.items (lists left.now.jobs.items) }
+    requires came { IsLeft problem.now left.found.items (lists left.jobs.items) }
     ensures { (input : List ℕ) (found : List (List ℕ)) (jobs : List (List (List ℕ)))
         → IsStart input bytes.now problem.now found jobs
-        → RunsTo problem.now found jobs turns left.now.found.items (lists left.now.jobs.items)
+        → RunsTo problem.now found jobs turns left.found.items (lists left.jobs.items)
         → IfOk result (IsOutcomeOf turns input) }
 {
     sizes_are_sums();
-    let stopped = stopped_after(left, turns);
-    let text = text_after(rt, workers, problem, bytes, left, stopped)?;
-    Ok(Outcome { text, stopped })
-}
-
-// The checkpoint of what is left where the search stopped, and else the book.
-fn text_after<R: AllocGlobal + Threads + Sync>(
-    rt: &R,
-    workers: u32,
-    problem: &Problem,
-    bytes: &[u8],
-    left: &Left,
-    stopped: Option<u64>,
-) -> Result<Vec<u8>, NoMemory>
-    requires file { ProblemFile bytes.now problem.now }
-    requires goes_on { CanGoOn problem.now left.now.found.items (lists left.now.jobs.items) }
-    ensures { IfOk result (λ text. IsTextAfter problem.now bytes.now left.now.found.items (lists left.now.jobs.items) stopped text.items) }
-{
-    match stopped {
-        Some(_) => checkpoint_of(rt.alloc(), problem, bytes, left),
-        None => book_of(rt, workers, problem, left),
-    }
+    each_touch_is_covered_once();
+    what_was_found_whole_is_the_book();
+    let stopped = stopped_after(&left, turns);
+    let pieces = pieces_after(rt, workers, problem, bytes, left, stopped)?;
+    Ok(Outcome { pieces, stopped })
 }
 
 // After how many turns the search stopped, if some job is left.
@@ -145,7 +130,43 @@ fn stopped_after(left: &Left, turns: Option<u64>) -> Option<u64>
     if left.jobs.is_empty() { None } else { turns }
 }
 
-// The checkpoint of what is left.
+// The checkpoint of what is left where the search stopped, and else the book, by as many threads as there are workers.
+fn pieces_after<R: AllocGlobal + Threads + Sync>(
+    rt: &R,
+    workers: u32,
+    problem: &Problem,
+    bytes: &[u8],
+    left: Left,
+    stopped: Option<u64>,
+) -> Result<Vec<Vec<u8>>, NoMemory>
+    requires file { ProblemFile bytes.now problem.now }
+    requires came { IsLeft problem.now left.found.items (lists left.jobs.items) }
+    ensures { IfOk result (λ pieces. IsTextAfter problem.now bytes.now left.found.items (lists left.jobs.items) stopped (pieces_joined pieces.items)) }
+{
+    match stopped {
+        Some(_) => checkpoint_after(rt.alloc(), problem, bytes, left),
+        None => book_pieces(rt, rt.alloc(), workers as usize, problem, left.found),
+    }
+}
+
+// The checkpoint of what is left, with what was found put in order.
+fn checkpoint_after(
+    alloc: Global,
+    problem: &Problem,
+    bytes: &[u8],
+    left: Left,
+) -> Result<Vec<Vec<u8>>, NoMemory>
+    requires file { ProblemFile bytes.now problem.now }
+    requires came { IsLeft problem.now left.found.items (lists left.jobs.items) }
+    ensures { IfOk result (λ pieces. IsStopText problem.now bytes.now left.found.items (lists left.jobs.items) (pieces_joined pieces.items)) }
+{
+    let ordered = left_in_order(alloc, problem, left.found, left.jobs)?;
+    let text = checkpoint_of(alloc, problem, bytes, &ordered)?;
+    let pieces = one_piece(alloc, text)?;
+    Ok(pieces)
+}
+
+// The checkpoint of what is left and in order.
 fn checkpoint_of(
     alloc: Global,
     problem: &Problem,
@@ -159,15 +180,11 @@ fn checkpoint_of(
     write_parts(alloc, problem, bytes, &left.found, &left.jobs)
 }
 
-// The book of what was found, written by as many threads as there are workers.
-fn book_of<R: AllocGlobal + Threads + Sync>(
-    rt: &R,
-    workers: u32,
-    problem: &Problem,
-    left: &Left,
-) -> Result<Vec<u8>, NoMemory>
-    requires { CanGoOn problem.now left.now.found.items (lists left.now.jobs.items) }
-    ensures { IfOk result (λ text. text.items ≡ text_of_book problem.now left.now.found.items) }
+// A text as one piece.
+fn one_piece(alloc: Global, text: Vec<u8>) -> Result<Vec<Vec<u8>>, NoMemory>
+    ensures { IfOk result (λ pieces. pieces_joined pieces.items ≡ text.items) }
 {
-    book_text_by(rt, rt.alloc(), workers as usize, problem, &left.found)
+    let mut pieces = Vec::with_capacity(alloc, 1)?;
+    pieces.push(text)?;
+    Ok(pieces)
 }

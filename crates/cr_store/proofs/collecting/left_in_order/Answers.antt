@@ -3,11 +3,11 @@ use Rattle.cr_store.proofs.Leaving.{left_goes_on, left_covers}
 use Rattle.cr_store.proofs.collecting.left_in_order.Goals as goal
 
 pub returns-clause-goes_on : goal.returns-clause-goes_on
-returns-clause-goes_on g c = λ before begun spent way.
+returns-clause-goes_on c = λ before begun spent way.
     left_goes_on c.args.problem.now before begun c.args.found.items (lists c.args.jobs.items) spent way c.in_ok-found.found.items c.in_ok-found.ensures.same
     c.what_is_sorted_is_the_book.ensures.strict c.in_ok-found.ensures.ascending
 
 pub returns-clause-covers : goal.returns-clause-covers
-returns-clause-covers g c = λ before begun spent way.
+returns-clause-covers c = λ before begun spent way.
     left_covers c.partitions_follow_one_another.ensures.covers c.args.problem.now before begun c.args.found.items (lists c.args.jobs.items) spent
     c.in_ok-found.found.items c.in_ok-found.ensures.same way

@@ -1,8 +1,8 @@
-use Rattle.std.proofs.Common.{◌≡◌, ◌⊎◌, ◌++◌, [], Some, sym, ap, ◌∙◌, subst}
+use Rattle.std.proofs.Common.{◌≡◌, ◌⊎◌, ◌++◌, [], Some, sym, ◌∙◌, subst}
 use Rattle.std.proofs.lemmas.Bool.{false≢true}
 use Rattle.cr_model.specs.Sound.{IsSound}
 use Rattle.cr_store.specs.Written.{lists}
-use Rattle.cr_top.specs.Runs.{UnderWay, BoardRan, turns_after}
+use Rattle.cr_top.specs.Runs.{UnderWay, BoardRan}
 use Rattle.cr_top.proofs.Going.{can_open, goes_on, shrinks, is_run}
 use Rattle.cr_top.proofs.boards.run.Goals as goal
 
@@ -36,6 +36,5 @@ loop-allowed-preserved g c =
 
 pub returns : goal.returns
 returns g c = is_run (g.E.Explorer.explores c.args.explorer.now) c.args.left.found.items (lists c.args.left.jobs.items) c.args.turns
-    c.problem-problem.result.now c.loop-allowed.found.items c.in_ok-now.now.found.items (lists c.loop-allowed.jobs.items) (lists c.in_ok-now.now.jobs.items) c.loop-allowed.allowed
-    c.problem-problem.ensures c.in_ok-now.ensures.jobs c.in_ok-now.ensures.goes_on c.in_ok-now.ensures.covers c.loop-allowed.invariant
+    c.loop-allowed.found.items (lists c.loop-allowed.jobs.items) c.loop-allowed.allowed c.loop-allowed.invariant
     (subst (λ js. (lists js ≡ []) ⊎ (c.loop-allowed.allowed ≡ Some 0)) c.deref.ensures.value (c.is_over.ensures.0 c.loop-allowed-test.false))

@@ -1,5 +1,4 @@
 use Rattle.std.proofs.Common.{◌≡◌, ◌≤◌, [], ◌∙◌, ap, arith, Some}
-use Rattle.cr_board.specs.Boards.{BoardParts}
 use Rattle.cr_board.specs.Jobs.{opening_from}
 use Rattle.cr_store.specs.Written.{lists}
 use Rattle.cr_top.proofs.Going.{keeps_budget, board_ran}
