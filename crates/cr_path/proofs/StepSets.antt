@@ -1,12 +1,12 @@
 -- Sets of steps, a bit for each.
-use Rattle.std.proofs.Common.{◌≡◌, ◌≢◌, ℕ, ◌+◌, ◌-◌, ◌*◌, ◌/◌, ◌%◌, ◌^◌, ◌<◌, ◌≤◌, Bool, true, false, max, nat_eq, sym, ap, ◌∙◌, inl, inr, arith}
+use Rattle.std.proofs.Common.{◌≡◌, ◌≢◌, ℕ, ◌+◌, ◌-◌, ◌*◌, ◌/◌, ◌%◌, ◌^◌, ◌<◌, ◌≤◌, Bool, true, false, max, nat_eq, sym, ap, subst, ◌∙◌, inl, inr, arith}
 use Rattle.std.specs.Int.{bit_at, w32, trailing_zeros}
 use mir.Val.{bool_byte}
 use Rattle.std.specs.Int.RustNames.{bit_or}
 use Rattle.std.proofs.lemmas.Bool.{cases_lt}
 use Rattle.std.proofs.lemmas.Bool.Decides.{Decides-eqb}
-use Rattle.std.proofs.lemmas.Nat.{shr-shr, shr_le}
-use Rattle.std.proofs.lemmas.Nat.Bits.{bit_at-zero, bit_at_or, bit_at_set_same, bit_at_set_other, bit_at-trailing_zeros}
+use Rattle.std.proofs.lemmas.Nat.{shr-shr, shr_le, shr_below, shl_whole, pow_pos}
+use Rattle.std.proofs.lemmas.Nat.Bits.{bit_at-zero, bit_at_or, bit_at_set_same, bit_at_set_other, bit_at_cat_low, bit_at_cat_high, bit_at-trailing_zeros}
 use Rattle.cr_path.specs.Sets.{has_step, is_known}
 
 -- the set with nothing more
@@ -30,6 +30,24 @@ module _ (set step : ℕ) (within : step < 31) where
   pub others_stay : (is_in : Bool) (other : ℕ) → other ≢ step → has_step (bit_or set (bool_byte is_in * 2 ^ step % 2 ^ 32)) other ≡ has_step set other
   others_stay true other differs = ap (λ b. nat_eq b 1) (bit_at_set_other w32 set step low other differs)
   others_stay false other differs = ap (λ b. nat_eq b 1) (nothing_more set step other)
+
+-- the set without the steps below one
+module _ (set first : ℕ) (fits : set < 2 ^ 32) (low : first ≤ 31) where
+  abbrev kept : ℕ
+  kept = set / 2 ^ first
+
+  cut_off : kept * 2 ^ first % 2 ^ 32 ≡ kept * 2 ^ first + 0
+  cut_off =
+      let same : 32 - first + first ≡ 32 = omega (arith, low) in
+      shl_whole kept (32 - first) first 32 (shr_below set (32 - first) first (subst (λ n. set < 2 ^ n) (sym same) fits)) (omega (arith, same)) ∙ omega arith
+
+  pub none_below : (step : ℕ) → step < first → has_step (kept * 2 ^ first % 2 ^ 32) step ≡ false
+  none_below step below = ap (λ b. nat_eq b 1) (ap (λ n. bit_at n step) cut_off ∙ bit_at_cat_low kept first 0 step below ∙ bit_at-zero step)
+
+  pub same_above : (step : ℕ) → first ≤ step → has_step (kept * 2 ^ first % 2 ^ 32) step ≡ has_step set step
+  same_above step high =
+      let same : first + (step - first) ≡ step = omega (arith, high) in
+      ap (λ b. nat_eq b 1) (ap (λ n. bit_at n step) cut_off ∙ bit_at_cat_high kept first 0 step (pow_pos first) high ∙ ap (λ n. n % 2) (shr-shr set first (step - first)) ∙ ap (bit_at set) same)
 
 -- the least step of a known set from one on
 module _ (set from : ℕ) (fits : set < 2 ^ 32) (known : is_known set ≡ true) (low : from ≤ 31) where

@@ -24,7 +24,7 @@ use crate::counting::Counting;
 use crate::ends::{Ends, LeadEnd};
 use crate::marks::Marks;
 use crate::parts::{bring_new_rows, parts_to_try};
-use crate::sets::{is_known, least_from, no_steps, with_step};
+use crate::sets::{is_known, least_from, no_steps, with_step, without_below};
 use crate::table::{LeadRecord, NumberTable};
 use cr_leads::LeadTable;
 use cr_model::Problem;
@@ -274,12 +274,12 @@ impl<'a, const WIDTH: usize> Path<'a, WIDTH> {
         ensures known { is_known result ≡ true }
         ensures are { AreUncut self.now.problem self.now.node result }
     {
-        let first = self.first_straight();
+        // Also those that turn back are looked at, which takes less time than a loop whose length is not foreseen.
         let mut uncut = no_steps();
-        for step in first..self.step_count() {
+        for step in 0..self.step_count() {
             uncut = with_step(uncut, step, !self.is_cut(end, step));
         }
-        uncut
+        without_below(uncut, self.first_straight())
     }
 
     // The least step by which the child does not turn back, or the number of steps. Where the query is the same for all
@@ -337,13 +337,13 @@ impl<'a, const WIDTH: usize> Path<'a, WIDTH> {
             .numbers_at::<WIDTH>(self.numbers.place(end.base, step))
     }
 
-    // Whether the child of a clean node by a step, which does not turn back, is dead, but for rows that fit patterns.
+    // Whether the child of a clean node by a step is dead, if it does not turn back, but for rows that fit patterns.
     fn is_cut(&self, end: LeadEnd, step: u8) -> bool
         requires clean { is_clean self.now.problem self.now.node ≡ true }
         requires end { IsEnd self.now.problem self.now.numbers self.now.node end }
         requires step { step < length self.now.problem.leads }
-        requires straight { is_turned_back self.now.problem (child self.now.node step) ≡ false }
-        ensures { result ≡ is_cut self.now.problem most_rows (child self.now.node step) }
+        ensures { is_turned_back self.now.problem (child self.now.node step) ≡ false
+            → result ≡ is_cut self.now.problem most_rows (child self.now.node step) }
     {
         // All of it is asked, which takes less time than to leave early.
         let lead = self.lead_after(end, step);

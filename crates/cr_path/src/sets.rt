@@ -31,6 +31,15 @@ pub fn with_step(set: u32, step: u8, is_in: bool) -> u32
     set | (u32::from(is_in) << step)
 }
 
+/// The set without the steps below one.
+pub fn without_below(set: u32, first: u8) -> u32
+    requires { first ≤ 31 }
+    ensures below { (step : ℕ) → step < first → has_step result step ≡ false }
+    ensures others { (step : ℕ) → first ≤ step → has_step result step ≡ has_step set step }
+{
+    (set >> first) << first
+}
+
 /// The least step from this one on of a known set, or 31 where it has none.
 pub fn least_from(set: u32, from: u8) -> u8
     requires known { is_known set ≡ true }

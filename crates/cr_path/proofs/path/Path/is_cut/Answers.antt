@@ -18,7 +18,7 @@ has_some-is_again-requires g c =
     (c.numbers_after.ensures.are ∙ ap (λ (v : PathParts). numbers_of v.numbers place) (sym c.self.view_is))
 
 pub returns : goal.returns
-returns g c =
+returns g c straight =
     let w = c.self.inside in
     let p = w.problem.now in
     let t = w.numbers.now in
@@ -31,6 +31,6 @@ returns g c =
     child_told p t w.steps c.args.step place c.lead_after-lead.result w.marks.marks w.marks.fresh c.args.end c.self.invariant.0.numbered c.self.invariant.0.sound clean inside found c.self.invariant.0.marked at_end
     c.numbers_after.result.now are (nat_le c.from.result c.args.end.rung) c.has_some-is_again.result
     (ap (λ n. nat_le n c.args.end.rung) c.from.ensures) c.has_some-is_again.ensures
-    (subst (λ (v : PathParts). is_turned_back v.problem (child v.node c.args.step) ≡ false) (sym c.self.view_is) c.requires.straight)
+    (subst (λ (v : PathParts). is_turned_back v.problem (child v.node c.args.step) ≡ false) (sym c.self.view_is) straight)
     c.is_hopeless_with-is_hopeless.result (c.is_hopeless_with-is_hopeless.ensures p w.steps c.self.invariant.0.counted)
     ∙ ap (λ (v : PathParts). is_cut v.problem most_rows (child v.node c.args.step)) c.self.view_is

@@ -1,9 +1,5 @@
-use Rattle.std.proofs.Common.{◌≤◌}
 use Rattle.cr_path.specs.Sets.{AreSeen}
 use Rattle.cr_path.proofs.path.Path.judge_children.Given as goal
 
 abbrev pub invariant-loop-step : goal.invariant-loop-step
-invariant-loop-step g l = record {
-  seen : AreSeen l.self.problem l.self.node l.step l.uncut;
-  from : l.first ≤ l.step;
-}
+invariant-loop-step g l = AreSeen l.self.problem l.self.node l.step l.uncut
