@@ -101,41 +101,26 @@ fn each_read_fails_in_turn(rt: HostRuntime) -> Result<(), Fail> {
     Ok(())
 }
 
-// Which writes fail, the words, how many bytes a write takes at most, how many writes there are, and how the call ends
-// where none fails. The book has 66 bytes, and the checkpoint 205. No clause says where the book is cut into pieces, so its
-// bytes are written one by one.
-type Writes = (
-    &'static str,
-    &'static [&'static str],
-    u8,
-    u8,
-    Ending<'static>,
-);
+// Which writes fail, the words, how many writes there are, of 16 bytes but for the last, and how the call ends where none
+// fails. The book has 66 bytes, and the checkpoint 205.
+type Writes = (&'static str, &'static [&'static str], u8, Ending<'static>);
 
 const WRITES: [Writes; 2] = [
-    ("writes of a book", &[], 1, 66, BOOK),
-    ("writes of a checkpoint", STOP, 16, 13, CHECKPOINT),
+    ("writes of a book", &[], 5, BOOK),
+    ("writes of a checkpoint", STOP, 13, CHECKPOINT),
 ];
 
 #[test]
 fn each_write_fails_in_turn(rt: HostRuntime) -> Result<(), Fail> {
-    for (name, words, most, writes, whole) in WRITES {
+    for (name, words, writes, whole) in WRITES {
         let (_, text, _) = whole;
         for before in 0..=writes {
             let call = u64::from(before) + 1;
             let (code, _, noted) = UNWRITTEN;
-            let length = usize::from(before).saturating_mul(usize::from(most));
-            let broken = (code, front(text, length), noted);
+            let broken = (code, front(text, usize::from(before) * 16), noted);
             let ending = if before < writes { broken } else { whole };
             let faults = (0, call, 0);
-            let is_as_wanted = ends_with(
-                &rt,
-                words,
-                DOUBLES.as_bytes(),
-                u64::from(most.max(1)),
-                faults,
-                ending,
-            )?;
+            let is_as_wanted = ends_with(&rt, words, DOUBLES.as_bytes(), 50, faults, ending)?;
             check_call(name, call, is_as_wanted)?;
         }
     }

@@ -4,7 +4,7 @@ ghost use Rattle.std.specs.Prelude.{◌≤◌};
 
 use cr_io::{MemSink, MemSource, SureSink, SureSource};
 use cr_top::{OpenGate, ringsearch};
-use std::alloc::Global;
+use std::alloc::{AllocError, Global};
 use std::sync::Wait;
 use std::test::Fail;
 use std::thread::Threads;
@@ -30,7 +30,7 @@ pub fn ends<R: AllocGlobal + Threads + Wait + Sync>(
     ends_with(rt, words, input, 50, (0, 0, 0), ending)
 }
 
-/// Whether a call ends so. At most so many bytes are given by its source at once, and taken by its sinks.
+/// Whether a call ends so. Its source gives so many bytes at once at most, and its sinks take 16.
 pub fn ends_with<R: AllocGlobal + Threads + Wait + Sync>(
     rt: &R,
     words: &[&str],
@@ -45,8 +45,8 @@ pub fn ends_with<R: AllocGlobal + Threads + Wait + Sync>(
     let (read, write, note) = faults;
     let words = words_of(alloc, words)?;
     let mut source = MemSource::new(input.to_vec(alloc)?, [read].to_vec(alloc)?, most);
-    let mut sink = MemSink::new(alloc, [write].to_vec(alloc)?, most);
-    let mut notes = MemSink::new(alloc, [note].to_vec(alloc)?, most);
+    let mut sink = sink_of(alloc, write)?;
+    let mut notes = sink_of(alloc, note)?;
     let status = ringsearch(rt, &words, &mut source, &mut sink, &mut notes, &OpenGate);
     Ok(is_ending(status.code(), &sink, &notes, ending))
 }
@@ -74,6 +74,11 @@ pub fn words_of(alloc: Global, words: &[&str]) -> Result<Vec<String>, Fail> {
         texts.push(String::from_str(alloc, word)?)?;
     }
     Ok(texts)
+}
+
+// A sink that takes 16 bytes at once, and fails at one write.
+fn sink_of(alloc: Global, write: u64) -> Result<MemSink, AllocError> {
+    Ok(MemSink::new(alloc, [write].to_vec(alloc)?, 16))
 }
 
 // Whether this is how a call ended.

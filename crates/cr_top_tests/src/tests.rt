@@ -333,10 +333,26 @@ const CALLS: &[Call] = &[
         (7, "", "ringsearch: write failed\n"),
     ),
     (
+        "the second write fails",
+        MINIMUS,
+        (0, 2, 0),
+        (7, "24 ppp\ntouches 1", "ringsearch: write failed\n"),
+    ),
+    (
         "the second read of more fails",
         DOUBLES,
         (2, 0, 0),
         (6, "", "ringsearch: read failed\n"),
+    ),
+    (
+        "the third write of more fails",
+        DOUBLES,
+        (0, 3, 0),
+        (
+            7,
+            "20 bb\n40 pppp\n60 pbpbpb\n100 ppbp",
+            "ringsearch: write failed\n",
+        ),
     ),
     ("notes fail at once", SEVENTEEN, (0, 0, 1), (4, "", "")),
     ("the note fails too", MINIMUS, (1, 0, 1), (6, "", "")),
