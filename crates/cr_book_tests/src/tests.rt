@@ -243,11 +243,7 @@ fn joined(alloc: Global, pieces: &[Vec<u8>]) -> Result<Vec<u8>, Fail> {
 }
 
 // They are callings of a problem.
-fn known_callings(
-    alloc: Global,
-    problem: &Problem,
-    rows: &[&[u8]],
-) -> Result<Vec<Calling>, Fail>
+fn known_callings(alloc: Global, problem: &Problem, rows: &[&[u8]]) -> Result<Vec<Calling>, Fail>
     ensures { IfOk result (λ callings. All (HasSteps problem.now) callings.items) }
 {
     let callings = callings_of(alloc, rows)?;
