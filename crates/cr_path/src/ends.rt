@@ -32,20 +32,23 @@ pub struct LeadEnd {
 /// It is seen as their list.
 #[derive(Drop)]
 pub struct Ends {
-    // As many as a node may have: those after the last one are of no node.
+    // The last one, which is at hand.
+    last: LeadEnd,
+    // Those before it, and as many more as a node may have: these are of no node.
     ends: Vec<LeadEnd>,
-    last: usize,
+    // How many stand before it.
+    count: usize,
 }
 
 impl Model for Ends {
-    ghost use Rattle.std.specs.Prelude.{◌≡◌, ◌+◌, ◌<◌, List, length, take};
+    ghost use Rattle.std.specs.Prelude.{◌≡◌, ◌<◌, ◌++◌, ◌∷◌, [], List, length, take};
     ghost use Rattle.cr_path.specs.declared.ends.LeadEnd.{LeadEnd};
 
     ghost Value = { List LeadEnd };
 
-    ghost view = { λ e. take (e.last + 1) e.ends.items };
+    ghost view = { λ e. take e.count e.ends.items ++ e.last ∷ [] };
 
-    ghost invariant = { λ e. (length e.ends.items ≡ 1025) × (e.last < 1025) };
+    ghost invariant = { λ e. (length e.ends.items ≡ 1025) × (e.count < 1025) };
 }
 
 impl Ends {
@@ -53,21 +56,25 @@ impl Ends {
     pub fn new(alloc: Global) -> Result<Ends, NoMemory>
         ensures { IfOk result (λ ends. ends ≡ record { base = 0; rung = 0; uncut = 0; home = true } ∷ []) }
     {
-        let start = LeadEnd {
+        let last = LeadEnd {
             base: 0,
             rung: 0,
             uncut: 0,
             home: true,
         };
-        let ends = Vec::from_elem(alloc, start, ROOM)?;
-        Ok(Ends { ends, last: 0 })
+        let ends = Vec::from_elem(alloc, last, ROOM)?;
+        Ok(Ends {
+            last,
+            ends,
+            count: 0,
+        })
     }
 
     /// The last end.
     pub fn last(&self) -> LeadEnd
         ensures { (p : ProblemParts) (t : NumberParts) (node : List ℕ) → AreEnds p t node self.now → IsEnd p t node result }
     {
-        self.ends[self.last]
+        self.last
     }
 
     /// Appends an end.
@@ -76,8 +83,9 @@ impl Ends {
         ensures { (p : ProblemParts) (t : NumberParts) (node : List ℕ) (step : ℕ) → AreEnds p t node self.old
             → IsEnd p t (child node step) end → AreEnds p t (child node step) self.new }
     {
-        self.last += 1;
-        self.ends[self.last] = end;
+        self.ends[self.count] = self.last;
+        self.count += 1;
+        self.last = end;
     }
 
     /// Removes the last end.
@@ -86,7 +94,8 @@ impl Ends {
         ensures { (p : ProblemParts) (t : NumberParts) (node : List ℕ) → 0 < length node → AreEnds p t node self.old
             → AreEnds p t (take (length node - 1) node) self.new }
     {
-        self.last -= 1;
+        self.count -= 1;
+        self.last = self.ends[self.count];
     }
 
     /// Keeps by which steps the children of the last end are not cut.
@@ -94,7 +103,6 @@ impl Ends {
         ensures { (p : ProblemParts) (t : NumberParts) (node : List ℕ) → AreEnds p t node self.old → AreUncut p node uncut
             → AreEnds p t node self.new }
     {
-        let end = self.last();
-        self.ends[self.last] = LeadEnd { uncut, ..end };
+        self.last.uncut = uncut;
     }
 }
