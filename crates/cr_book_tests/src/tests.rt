@@ -10,6 +10,7 @@ use cr_model::{Calling, Lead, Problem, Query, Step};
 use cr_row::{Change, Stage};
 use std::alloc::Global;
 use std::test::Fail;
+use std::thread::Threads;
 
 // A lead by its method, its mark and the places of its last change; the others are those of the plain course.
 #[derive(Clone, Copy)]
@@ -260,7 +261,7 @@ fn found_touches_are_printed(rt: HostRuntime) -> Result<(), Fail> {
     for threads in [0, 1, 3, 8] {
         for &(rows, want) in SORTINGS {
             let found = known_callings(alloc, &problem, rows)?;
-            let pieces = book_pieces(&rt, alloc, threads, &problem, found)?;
+            let pieces = book_pieces(&rt, alloc, threads, &problem, found, &[])?;
             if joined(alloc, &pieces)?.as_slice() != want.as_bytes() {
                 return Err(Fail::from(want));
             }
@@ -292,6 +293,8 @@ enum Order {
     SixRuns,
     // Two runs that alternate.
     TwoRuns,
+    // 240 hand-ins of 25 touches each, handed in by many workers.
+    HandIns,
     Mixed,
 }
 
@@ -303,6 +306,7 @@ fn number_at(order: Order, place: usize) -> usize
         Order::Ascending => place,
         Order::SixRuns => 5_000 - place / 1_000 * 1_000 + place % 1_000,
         Order::TwoRuns => place * 2 % 6_000 + place / 3_000,
+        Order::HandIns => place / 25 * 67 % 240 * 25 + place % 25,
         Order::Mixed => place * 7_919 % 6_000,
     }
 }
@@ -343,21 +347,52 @@ fn book_of_many(alloc: Global, problem: &Problem) -> Result<Vec<u8>, Fail> {
     Ok(book_text(alloc, problem, &sorted)?)
 }
 
+const ORDERS: &[Order] = &[
+    Order::Ascending,
+    Order::SixRuns,
+    Order::TwoRuns,
+    Order::HandIns,
+    Order::Mixed,
+];
+
+// What is told of the touches of hand-ins: nothing, what is right, and what is wrong.
+const HANDED: &[&[u64]] = &[&[], &[25; 240], &[0, 7, 0, 100_000, 3], &[u64::MAX, 1]];
+
+// The book of touches in an order, printed by so many threads.
+fn printed<R: Threads + Sync>(
+    rt: &R,
+    alloc: Global,
+    problem: &Problem,
+    order: Order,
+    threads: usize,
+    handed: &[u64],
+) -> Result<Vec<u8>, Fail> {
+    let found = many_callings(alloc, problem, order)?;
+    let pieces = book_pieces(rt, alloc, threads, problem, found, handed)?;
+    joined(alloc, &pieces)
+}
+
 #[test]
 fn threads_print_as_one_does(rt: HostRuntime) -> Result<(), Fail> {
-    let alloc = rt.alloc();
-    let problem = problem_of(alloc, MINOR)?;
-    let wanted = book_of_many(alloc, &problem)?;
-    for order in [
-        Order::Ascending,
-        Order::SixRuns,
-        Order::TwoRuns,
-        Order::Mixed,
-    ] {
+    let problem = problem_of(rt.alloc(), MINOR)?;
+    let wanted = book_of_many(rt.alloc(), &problem)?;
+    for order in ORDERS {
         for threads in [0, 1, 3, 8] {
-            let found = many_callings(alloc, &problem, order)?;
-            let pieces = book_pieces(&rt, alloc, threads, &problem, found)?;
-            assert!(rt; joined(alloc, &pieces)?.as_slice() == wanted.as_slice());
+            let text = printed(&rt, rt.alloc(), &problem, *order, threads, &[])?;
+            assert!(rt; text.as_slice() == wanted.as_slice());
+        }
+    }
+    Ok(())
+}
+
+#[test]
+fn whatever_is_told_of_hand_ins_the_book_is_the_same(rt: HostRuntime) -> Result<(), Fail> {
+    let problem = problem_of(rt.alloc(), MINOR)?;
+    let wanted = book_of_many(rt.alloc(), &problem)?;
+    for handed in HANDED {
+        for order in [Order::HandIns, Order::Mixed] {
+            let text = printed(&rt, rt.alloc(), &problem, order, 4, handed)?;
+            assert!(rt; text.as_slice() == wanted.as_slice());
         }
     }
     Ok(())

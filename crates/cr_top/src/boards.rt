@@ -7,7 +7,7 @@ ghost use Rattle.cr_store.specs.Written.{lists};
 ghost use Rattle.cr_top.specs.Runs.{KeepsTo, BoardRan, RunsTo, board_turns, turns_after};
 
 use cr_board::laws::{journals_tell_boards, partitions_follow_one_another};
-use cr_board::{Board, Opening};
+use cr_board::{Board, Entry, Opening};
 use cr_model::Calling;
 use cr_model::laws::sizes_are_sums;
 use cr_node::{Explorer, Node};
@@ -22,6 +22,14 @@ use std::thread::Threads;
 /// The most turns of one board, 2^26: its journal has two entries for each grant of 4,096 turns, and is dropped with it.
 pub const BOARD_TURNS: u64 = 67_108_864;
 
+/// Where a search went: what it found and left, and how many touches each hand-in brought, in the order in which they
+/// stand in what was found, the touches that were found before it taken as one. No clause speaks of these numbers.
+#[derive(Drop)]
+pub struct Went {
+    pub left: Left,
+    pub handed: Vec<u64>,
+}
+
 /// Goes on with a search by so many workers, on boards of at most so many turns each, until no job is left or the turns
 /// that are allowed are used. Each board is opened with the jobs alone: what was found stands aside, in one list, behind
 /// what had been found before, and is not sorted. Err where no memory is left.
@@ -32,13 +40,13 @@ pub fn run<R: AllocGlobal + Threads + Wait + Sync, E: Explorer + Sync>(
     left: Left,
     turns: Option<u64>,
     most: u64,
-) -> Result<Left, NoMemory>
+) -> Result<Went, NoMemory>
     requires some { 0 < most }
     requires goes_on { CanGoOn (E.explores explorer.now) left.found.items (lists left.jobs.items) }
     requires some_workers { 1 ≤ workers }
     requires few_workers { workers ≤ 64 }
     ensures { IfOk result (λ now. RunsTo (E.explores explorer.now) left.found.items (lists left.jobs.items) turns
-        now.found.items (lists now.jobs.items)) }
+        now.left.found.items (lists now.left.jobs.items)) }
 {
     partitions_follow_one_another();
     sizes_are_sums();
@@ -46,14 +54,18 @@ pub fn run<R: AllocGlobal + Threads + Wait + Sync, E: Explorer + Sync>(
     let _ = problem.stage();
     let mut found = left.found;
     let mut jobs = left.jobs;
+    let mut handed = Vec::new(rt.alloc());
+    handed.push(found.len() as u64)?;
     let mut allowed = turns;
     while !is_over(&jobs, allowed) {
         let ran = run_board(rt, workers, explorer, jobs, granted(allowed, most))?;
         put_behind(&mut found, ran.found)?;
+        handed.extend_from_slice(&ran.handed)?;
         jobs = ran.jobs;
         allowed = without(allowed, ran.used);
     }
-    Ok(Left { found, jobs })
+    let left = Left { found, jobs };
+    Ok(Went { left, handed })
 }
 
 // Moves what a board found behind what was found before. Where that is nothing, its list is taken as it is.
@@ -96,10 +108,11 @@ fn without(turns: Option<u64>, used: u64) -> Option<u64>
     }
 }
 
-// What a board found and the jobs that it left, and how many turns it used.
+// What a board found, how much of it by each hand-in, the jobs that it left, and how many turns it used.
 #[derive(Drop)]
 struct Ran {
     found: Vec<Calling>,
+    handed: Vec<u64>,
     jobs: Vec<Vec<Node>>,
     used: u64,
 }
@@ -123,12 +136,25 @@ fn run_board<R: AllocGlobal + Threads + Wait + Sync, E: Explorer + Sync>(
     let opening = Opening::new(problem, Vec::new(alloc), jobs, Some(turns), workers);
     let board = run_opening(rt, opening, explorer)?;
     let used = board.spent() as u64;
+    let handed = touches_handed_in(alloc, board.journal())?;
     let parts = board.into_parts(alloc)?;
     Ok(Ran {
         found: parts.found,
+        handed,
         jobs: parts.jobs,
         used,
     })
+}
+
+// How many touches each hand-in of a journal brought.
+fn touches_handed_in(alloc: Global, journal: &[Entry]) -> Result<Vec<u64>, NoMemory> {
+    let mut handed = Vec::new(alloc);
+    for entry in journal {
+        if let Entry::Hand { touches, .. } = entry {
+            handed.push(*touches)?;
+        }
+    }
+    Ok(handed)
 }
 
 // Runs a board of an opening to its end, by as many workers as it has. One alone takes no lock.

@@ -71,8 +71,8 @@ fn search_all<R: AllocGlobal + Threads + Wait + Sync>(
     let alloc = rt.alloc();
     let search = make_search(rt, alloc, problem)?;
     let all = all_of(alloc, problem)?;
-    let left = run(rt, workers, &search, all, None, BOARD_TURNS)?;
-    Ok(left)
+    let went = run(rt, workers, &search, all, None, BOARD_TURNS)?;
+    Ok(went.left)
 }
 
 // Plain Bob Minor, with the bob 14 and the single 1234, from 1 to so many changes as the number says.

@@ -10,7 +10,7 @@ ghost use Rattle.cr_top.specs.Runs.{IsLeft, RunsTo, StopsAfter};
 ghost use Rattle.cr_top.specs.Texts.{IsStopText, IsTextAfter, IsOutcomeOf, MakesText};
 
 use crate::Status;
-use crate::boards::run;
+use crate::boards::{Went, run};
 use crate::gate::{Gate, Gated};
 use crate::outcome::Outcome;
 use crate::start::{Start, start_of};
@@ -70,8 +70,8 @@ fn searched<R: AllocGlobal + Threads + Wait + Sync, G: Gate + Sync>(
         problem,
         left,
     } = start;
-    let left = run_behind(rt, workers, &problem, left, turns, gate, most)?;
-    written(rt, workers, &problem, &bytes, left, turns)
+    let went = run_behind(rt, workers, &problem, left, turns, gate, most)?;
+    written(rt, workers, &problem, &bytes, went, turns)
 }
 
 // Goes on with the search of a problem, by an explorer that enters the gate. What is found is not sorted.
@@ -83,20 +83,21 @@ fn run_behind<R: AllocGlobal + Threads + Wait + Sync, G: Gate + Sync>(
     turns: Option<u64>,
     gate: &G,
     most: u64,
-) -> Result<Left, NoMemory>
+) -> Result<Went, NoMemory>
     requires goes_on { CanGoOn problem.now left.found.items (lists left.jobs.items) }
     requires some { 0 < most }
     requires some_workers { 1 ≤ workers }
     requires few_workers { workers ≤ 64 }
-    ensures { IfOk result (λ now. RunsTo problem.now left.found.items (lists left.jobs.items) turns now.found.items (lists now.jobs.items)) }
+    ensures { IfOk result (λ now. RunsTo problem.now left.found.items (lists left.jobs.items) turns
+        now.left.found.items (lists now.left.jobs.items)) }
 {
     let search = make_search(rt, rt.alloc(), problem)?;
     let gated = Gated {
         explorer: &search,
         gate,
     };
-    let left = run(rt, workers, &gated, left, turns, most)?;
-    Ok(left)
+    let went = run(rt, workers, &gated, left, turns, most)?;
+    Ok(went)
 }
 
 // The text for what is left after the turns that are allowed.
@@ -105,21 +106,21 @@ fn written<R: AllocGlobal + Threads + Sync>(
     workers: u32,
     problem: &Problem,
     bytes: &[u8],
-    left: Left,
+    went: Went,
     turns: Option<u64>,
 ) -> Result<Outcome, NoMemory>
     requires file { ProblemFile bytes.now problem.now }
-    requires came { IsLeft problem.now left.found.items (lists left.jobs.items) }
+    requires came { IsLeft problem.now went.left.found.items (lists went.left.jobs.items) }
     ensures { (input : List ℕ) (found : List (List ℕ)) (jobs : List (List (List ℕ)))
         → IsStart input bytes.now problem.now found jobs
-        → RunsTo problem.now found jobs turns left.found.items (lists left.jobs.items)
+        → RunsTo problem.now found jobs turns went.left.found.items (lists went.left.jobs.items)
         → IfOk result (IsOutcomeOf turns input) }
 {
     sizes_are_sums();
     each_touch_is_covered_once();
     what_was_found_whole_is_the_book();
-    let stopped = stopped_after(&left, turns);
-    let pieces = pieces_after(rt, workers, problem, bytes, left, stopped)?;
+    let stopped = stopped_after(&went.left, turns);
+    let pieces = pieces_after(rt, workers, problem, bytes, went, stopped)?;
     Ok(Outcome { pieces, stopped })
 }
 
@@ -136,16 +137,24 @@ fn pieces_after<R: AllocGlobal + Threads + Sync>(
     workers: u32,
     problem: &Problem,
     bytes: &[u8],
-    left: Left,
+    went: Went,
     stopped: Option<u64>,
 ) -> Result<Vec<Vec<u8>>, NoMemory>
     requires file { ProblemFile bytes.now problem.now }
-    requires came { IsLeft problem.now left.found.items (lists left.jobs.items) }
-    ensures { IfOk result (λ pieces. IsTextAfter problem.now bytes.now left.found.items (lists left.jobs.items) stopped (pieces_joined pieces.items)) }
+    requires came { IsLeft problem.now went.left.found.items (lists went.left.jobs.items) }
+    ensures { IfOk result (λ pieces. IsTextAfter problem.now bytes.now went.left.found.items (lists went.left.jobs.items) stopped (pieces_joined pieces.items)) }
 {
+    let Went { left, handed } = went;
     match stopped {
         Some(_) => checkpoint_after(rt.alloc(), problem, bytes, left),
-        None => book_pieces(rt, rt.alloc(), workers as usize, problem, left.found),
+        None => book_pieces(
+            rt,
+            rt.alloc(),
+            workers as usize,
+            problem,
+            left.found,
+            &handed,
+        ),
     }
 }
 

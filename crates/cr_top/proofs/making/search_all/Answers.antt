@@ -7,4 +7,4 @@ pub run-requires-clause-goes_on : goal.run-requires-clause-goes_on
 run-requires-clause-goes_on g c = λ κs lives. subst (λ p. CanGoOn p c.in_ok-all.all.found.items (lists c.in_ok-all.all.jobs.items)) (sym c.in_ok-search.ensures.problem) c.in_ok-all.ensures.goes_on
 
 pub returns : goal.returns
-returns g c = rw (c.in_ok-search.ensures.problem, c.in_ok-all.ensures.found, c.in_ok-all.ensures.jobs) at c.in_ok-left.ensures
+returns g c = rw (c.in_ok-search.ensures.problem, c.in_ok-all.ensures.found, c.in_ok-all.ensures.jobs) at c.in_ok-went.ensures

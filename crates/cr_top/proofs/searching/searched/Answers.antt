@@ -11,11 +11,11 @@ pub written-requires-clause-came : goal.written-requires-clause-came
 written-requires-clause-came g c = λ κs lives. record {
   found = c.args.start.left.found.items;
   jobs = lists c.args.start.left.jobs.items;
-  used = c.in_ok-left.ensures.used;
-  way = c.in_ok-left.ensures.way;
+  used = c.in_ok-went.ensures.used;
+  way = c.in_ok-went.ensures.way;
 }
 
 pub returns : goal.returns
 returns g c = λ input start. c.written.ensures input c.args.start.left.found.items (lists c.args.start.left.jobs.items)
     (subst (λ bytes. IsStart input bytes c.args.start.problem c.args.start.left.found.items (lists c.args.start.left.jobs.items)) (sym c.deref.ensures.value) start)
-    c.in_ok-left.ensures
+    c.in_ok-went.ensures
