@@ -6,6 +6,8 @@ ghost use Rattle.cr_model.specs.Problems.{parts_from};
 ghost use Rattle.cr_model.specs.Sound.{IsSound};
 ghost use Rattle.cr_model.specs.Books.{IsBook};
 ghost use Rattle.cr_model.specs.Examples.{asks, on_six, minor_lead};
+ghost use Rattle.cr_model.specs.Checkpoints.{CanGoOn};
+ghost use Rattle.cr_explore.specs.Searches.{searched};
 ghost use Rattle.cr_store.specs.Written.{lists};
 ghost use Rattle.cr_top.specs.Runs.{RunsTo};
 ghost use Rattle.cr_top.specs.Made.{made_length, made_problem as problem_made_of, IsSummaryOf};
@@ -14,7 +16,7 @@ use crate::boards::{BOARD_TURNS, run};
 use crate::start::all_of;
 use cr_book::laws::what_was_found_whole_is_the_book;
 use cr_book::{sort_found, summary_text};
-use cr_explore::make_search;
+use cr_explore::{Search, make_search};
 use cr_model::{Calling, Lead, Problem, Query, Step};
 use cr_row::{Change, NoMemory, Stage};
 use cr_store::Left;
@@ -69,9 +71,24 @@ fn search_all<R: AllocGlobal + Threads + Wait + Sync>(
     ensures { IfOk result (λ left. RunsTo problem.now [] (([] ∷ []) ∷ []) None left.found.items (lists left.jobs.items)) }
 {
     let alloc = rt.alloc();
-    let search = make_search(rt, alloc, problem)?;
     let all = all_of(alloc, problem)?;
-    let went = run(rt, workers, &search, all, None, BOARD_TURNS)?;
+    let search = make_search(rt, alloc, problem)?;
+    left_by(rt, workers, &search, all)
+}
+
+// What a search leaves of nodes, which is no job.
+fn left_by<R: AllocGlobal + Threads + Wait + Sync>(
+    rt: &R,
+    workers: u32,
+    search: &Search,
+    left: Left,
+) -> Result<Left, NoMemory>
+    requires goes_on { CanGoOn (searched search.now) left.found.items (lists left.jobs.items) }
+    requires some_workers { 1 ≤ workers }
+    requires few_workers { workers ≤ 64 }
+    ensures { IfOk result (λ now. RunsTo (searched search.now) left.found.items (lists left.jobs.items) None now.found.items (lists now.jobs.items)) }
+{
+    let went = run(rt, workers, search, left, None, BOARD_TURNS)?;
     Ok(went.left)
 }
 

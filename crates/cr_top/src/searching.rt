@@ -96,8 +96,7 @@ fn run_behind<R: AllocGlobal + Threads + Wait + Sync, G: Gate + Sync>(
         explorer: &search,
         gate,
     };
-    let went = run(rt, workers, &gated, left, turns, most)?;
-    Ok(went)
+    run(rt, workers, &gated, left, turns, most)
 }
 
 // The text for what is left after the turns that are allowed.
