@@ -72,6 +72,7 @@ pub fn take_turns<P: Path>(
 }
 
 // Goes to the last node that is left. False where none is.
+#[inline(always)]
 fn go_on<P: Path>(path: &mut P, place: &mut Place, job: &[Node]) -> bool
     requires place { IsPlace (P.problem_of path.old) place.old (P.node_of path.old) }
     requires left { place.old.left ≤ length job.now }
@@ -99,6 +100,7 @@ fn go_on<P: Path>(path: &mut P, place: &mut Place, job: &[Node]) -> bool
 }
 
 // Goes to the last node that is left on the path. False where none is.
+#[inline(always)]
 fn descend<P: Path>(path: &mut P, place: &mut Place) -> bool
     requires { IsPlace (P.problem_of path.old) place.old (P.node_of path.old) }
     ensures problem { P.problem_of path.new ≡ P.problem_of path.old }
@@ -121,6 +123,7 @@ fn descend<P: Path>(path: &mut P, place: &mut Place) -> bool
 }
 
 // Appends the touch of the path's node, if it is kept.
+#[inline(always)]
 fn find_touch<P: Path>(
     alloc: Global,
     path: &mut P,

@@ -53,6 +53,7 @@ impl Period {
     }
 
     /// The steps of the word.
+    #[inline(always)]
     pub fn steps(&self) -> &[u8]
         ensures is { result.now ≡ self.now }
         ensures few { length self.now ≤ 1024 }
@@ -61,6 +62,7 @@ impl Period {
     }
 
     // What is kept of each of its fronts.
+    #[inline(always)]
     fn periods(&self) -> &[u16]
         ensures { IsKept self.now result.now }
     {
@@ -68,6 +70,7 @@ impl Period {
     }
 
     /// Appends a step.
+    #[inline(always)]
     pub fn push(&mut self, step: u8)
         requires { length self.old < 1024 }
         ensures { self.new ≡ self.old ++ step ∷ [] }
@@ -79,6 +82,7 @@ impl Period {
     }
 
     /// Removes the last step.
+    #[inline(always)]
     pub fn pop(&mut self)
         requires { 0 < length self.old }
         ensures { self.new ≡ take (length self.old - 1) self.old }
@@ -102,6 +106,7 @@ impl Period {
     }
 
     /// The least step with which the word does not turn back, or None where it turns back with each step.
+    #[inline(always)]
     pub fn first_straight(&self) -> Option<u8>
         ensures { (step : ℕ) → TurnsBack (self.now ++ step ∷ []) ↔ IfSome result (λ first. step < first) }
     {
@@ -143,6 +148,7 @@ fn is_least_rotation(steps: &[u8], periods: &[u16]) -> bool
 
 // What is kept for the whole word.
 #[tactic(auto, using(crate::proofs::Kept::whole))]
+#[inline(always)]
 fn last_period(steps: &[u8], periods: &[u16]) -> u16
     requires kept { IsKept steps.now periods.now }
     requires some { 0 < length steps.now }
@@ -153,6 +159,7 @@ fn last_period(steps: &[u8], periods: &[u16]) -> u16
 
 // What is kept for a word with one step more.
 #[tactic(auto, using(crate::proofs::Kept::of_one, crate::proofs::Kept::of_turned, crate::proofs::Kept::of_period))]
+#[inline(always)]
 fn next_period(steps: &[u8], periods: &[u16], step: u8) -> u16
     requires { IsKept steps.now periods.now }
     ensures { Tells (steps.now ++ step ∷ []) (length steps.now + 1) result }
@@ -170,6 +177,7 @@ fn next_period(steps: &[u8], periods: &[u16], step: u8) -> u16
 
 // The same, of a word that does not turn back and has this period.
 #[tactic(auto, using(crate::proofs::Kept::of_same))]
+#[inline(always)]
 fn longer(steps: &[u8], period: u16, step: u8) -> u16
     requires front { FrontRepeats steps.now (length steps.now) period }
     requires few { length steps.now ≤ 1024 }
@@ -188,6 +196,7 @@ fn longer(steps: &[u8], period: u16, step: u8) -> u16
 }
 
 // The least step with which the word does not turn back. None where it turns back with each.
+#[inline(always)]
 fn first_straight(steps: &[u8], periods: &[u16]) -> Option<u8>
     requires { IsKept steps.now periods.now }
     ensures { (step : ℕ) → TurnsBack (steps.now ++ step ∷ []) ↔ IfSome result (λ first. step < first) }
