@@ -1,7 +1,7 @@
 //! The loop of turns over a path.
 //!
 //! A live child is taken at once, so no lead is rung twice on the way down. The nodes that are left are made only at
-//! the end, from where the path stands.
+//! the end, from where the path stands. What each turn asks is part of the loop, and what few turns ask is a call.
 
 ghost use Rattle.std.specs.Prelude.{◌≡◌, ℕ, ◌≤◌, ◌++◌, List, All, length, take, reverse, IfOk, IsTrue, false};
 ghost use Rattle.cr_model.specs.Nodes.{IsValid};
