@@ -1,5 +1,5 @@
 -- The touch of a valid node has few leads.
-use Rattle.std.proofs.Common.{◌≡◌, ℕ, zero, suc, ◌+◌, ◌*◌, ◌<◌, ◌≤◌, List, ◌++◌, length, take, drop, take-append-drop, sym, ap, ◌∙◌, arith, append-nil, append_assoc, length-append}
+use Rattle.std.proofs.Common.{ℕ, zero, suc, ◌+◌, ◌*◌, ◌<◌, ◌≤◌, List, length, take, drop, take-append-drop, ap, arith}
 use Rattle.std.proofs.Math.Nat.{mul_comm, mul_assoc, mul-le-mul_left, mul-div-le}
 use Rattle.std.proofs.lemmas.Nat.{le-div}
 use Rattle.cr_model.specs.Problems.{ProblemParts}
@@ -8,7 +8,7 @@ use Rattle.cr_model.specs.Callings.{HasSteps, length_of, shortest}
 use Rattle.cr_model.specs.OneTurn.{touch_of}
 use Rattle.cr_model.proofs.Ringing.{lengths_on}
 use Rattle.cr_model.specs.Limits.{most_leads}
-use Rattle.cr_model.specs.Queries.{cap, repeated}
+use Rattle.cr_model.specs.Queries.{cap}
 use Rattle.cr_model.specs.Nodes.{IsValid}
 use Rattle.cr_model.specs.Sound.{IsSound, sound_depth}
 use Rattle.cr_model.specs.Dead.{parts_of}

@@ -30,6 +30,7 @@ use std::alloc::Global;
 /// count or is not the least of its rotations, nothing is rung. Where a row of the touch stands twice, or all rotations
 /// of a touch meet the query or none, half of the further parts are rung at most, and no memory is taken. Err where no
 /// memory is left.
+#[inline(never)]
 pub fn is_touch_kept<W: Standing>(
     alloc: Global,
     problem: &Problem,
@@ -58,6 +59,7 @@ pub fn is_touch_kept<W: Standing>(
 
 /// The same of a walk by numbers. Where patterns are all that tells the rotations of a touch apart, and there is one part,
 /// nothing is rung, and no memory is taken.
+#[inline(always)]
 pub fn is_numbered_touch_kept<const WIDTH: usize>(
     alloc: Global,
     problem: &Problem,
@@ -91,6 +93,7 @@ fn is_told_by_patterns(problem: &Problem) -> bool
 }
 
 // Whether the touch of a walk's node is kept, where patterns tell its rotations apart.
+#[inline(never)]
 fn is_best_touch<const WIDTH: usize>(
     problem: &Problem,
     numbers: &NumberTable,

@@ -68,6 +68,7 @@ impl<'a, const WIDTH: usize> Path for NumberPath<'a, WIDTH> {
         self.problem
     }
 
+    #[inline(always)]
     fn node(&self) -> &[u8] {
         self.walk.steps()
     }
@@ -77,14 +78,17 @@ impl<'a, const WIDTH: usize> Path for NumberPath<'a, WIDTH> {
     }
 
     #[tactic(auto, unfolding(crate::specs::Stacks::first_live))]
+    #[inline(always)]
     fn down(&mut self, from: u8) -> Option<u8> {
         self.walk.go_down(from)
     }
 
+    #[inline(always)]
     fn up(&mut self) -> u8 {
         self.walk.go_up()
     }
 
+    #[inline(always)]
     fn is_kept(&mut self, alloc: Global) -> Result<bool, NoMemory> {
         a_test_decides_what_is_kept();
         is_numbered_touch_kept(alloc, self.problem, self.leads, self.numbers, &self.walk)

@@ -1,7 +1,7 @@
 //! The loop of turns over a path.
 //!
 //! A live child is taken at once, so no lead is rung twice on the way down. The nodes that are left are made only at
-//! the end, from where the path stands.
+//! the end, from where the path stands. What each turn asks is part of the loop, and what few turns ask is a call.
 
 ghost use Rattle.std.specs.Prelude.{◌≡◌, ℕ, ◌≤◌, ◌++◌, List, All, length, take, reverse, IfOk, IsTrue, false};
 ghost use Rattle.cr_model.specs.Nodes.{IsValid};
@@ -72,6 +72,7 @@ pub fn take_turns<P: Path>(
 }
 
 // Goes to the last node that is left. False where none is.
+#[inline(always)]
 fn go_on<P: Path>(path: &mut P, place: &mut Place, job: &[Node]) -> bool
     requires place { IsPlace (P.problem_of path.old) place.old (P.node_of path.old) }
     requires left { place.old.left ≤ length job.now }
@@ -99,6 +100,7 @@ fn go_on<P: Path>(path: &mut P, place: &mut Place, job: &[Node]) -> bool
 }
 
 // Goes to the last node that is left on the path. False where none is.
+#[inline(always)]
 fn descend<P: Path>(path: &mut P, place: &mut Place) -> bool
     requires { IsPlace (P.problem_of path.old) place.old (P.node_of path.old) }
     ensures problem { P.problem_of path.new ≡ P.problem_of path.old }
@@ -121,6 +123,7 @@ fn descend<P: Path>(path: &mut P, place: &mut Place) -> bool
 }
 
 // Appends the touch of the path's node, if it is kept.
+#[inline(always)]
 fn find_touch<P: Path>(
     alloc: Global,
     path: &mut P,

@@ -45,6 +45,7 @@ impl Counting {
     }
 
     /// Goes to the node with this step more, whose lead is the one at this place.
+    #[inline(always)]
     pub fn add_lead(&mut self, numbers: &NumberTable, place: usize, step: u8)
         requires few { IfSome self.old.meter (λ meter. length meter.node < 1024) }
         requires lead { IfSome self.old.meter (λ meter. CanCount numbers.now place step meter.node meter) }
@@ -56,6 +57,7 @@ impl Counting {
     }
 
     /// Goes back to the node without its last step, which is this one and whose lead is the one at this place.
+    #[inline(always)]
     pub fn take_back(&mut self, numbers: &NumberTable, place: usize, step: u8)
         requires last { IfSome self.old.meter (λ meter. meter.node ≡ child (parent meter.node) step) }
         requires lead { IfSome self.old.meter (λ meter. CanCount numbers.now place step (parent meter.node) meter) }
@@ -67,6 +69,7 @@ impl Counting {
     }
 
     /// Whether the node with this step more has too many or too few leads for the query.
+    #[inline(always)]
     pub fn is_hopeless_with(&self, step: u8) -> bool
         requires { IfSome self.now.meter (λ meter. step < length meter.problem.leads) }
         ensures { (p : ProblemParts) (node : List ℕ) → IsCounted p node self.now → result ≡ is_hopeless_by_leads p (child node step) }
@@ -78,6 +81,7 @@ impl Counting {
     }
 
     /// Whether the node, which is not hopeless by its leads, has too many or too few rows that fit a pattern.
+    #[inline(always)]
     pub fn is_hopeless(&self) -> bool
         ensures { (p : ProblemParts) (node : List ℕ) → IsCounted p node self.now → is_hopeless_by_leads p node ≡ false
             → result ≡ is_hopeless p node }
@@ -86,7 +90,7 @@ impl Counting {
             return false;
         }
         match &self.meter {
-            Some(meter) => meter.hopeless().is_some(),
+            Some(meter) => is_hopeless_now(meter),
             None => false,
         }
     }
@@ -103,7 +107,7 @@ impl Counting {
     }
 }
 
-// What a meter does stays a call in these three, so that going on, going back and judging children are short where
+// What a meter does stays a call in these four, so that going on, going back and judging children are short where
 // nothing is counted.
 
 // Tells a meter of a step more, whose lead is the one at this place.
@@ -133,6 +137,14 @@ fn is_hopeless_by_leads(meter: &Meter, step: u8) -> bool
     ensures { result ≡ is_hopeless_by_leads meter.now.problem (child meter.now.node step) }
 {
     meter.is_hopeless_with(step)
+}
+
+// Whether the node of a meter has too many or too few leads, or rows that fit a pattern.
+#[inline(never)]
+fn is_hopeless_now(meter: &Meter) -> bool
+    ensures { result ≡ is_hopeless meter.now.problem meter.now.node }
+{
+    meter.hopeless().is_some()
 }
 
 // Whether the query has no counts, no patterns and no limits on changes of method.

@@ -32,12 +32,14 @@ pub struct LeadEnd {
 /// It is seen as their list.
 #[derive(Drop)]
 pub struct Ends {
-    // The last one, which is at hand.
+    // The last one, which is at hand, but for its set of steps.
     last: LeadEnd,
     // Those before it, and as many more as a node may have: these are of no node.
     ends: Vec<LeadEnd>,
     // How many stand before it.
     count: usize,
+    // The set of steps of the last one, apart from it, so that a copy of it need not wait until the set is written.
+    uncut: u32,
 }
 
 impl Model for Ends {
@@ -46,7 +48,8 @@ impl Model for Ends {
 
     ghost Value = { List LeadEnd };
 
-    ghost view = { λ e. take e.count e.ends.items ++ e.last ∷ [] };
+    ghost view = { λ e. take e.count e.ends.items
+        ++ record { base = e.last.base; rung = e.last.rung; uncut = e.uncut; home = e.last.home } ∷ [] };
 
     ghost invariant = { λ e. (length e.ends.items ≡ 1025) × (e.count < 1025) };
 }
@@ -67,42 +70,56 @@ impl Ends {
             last,
             ends,
             count: 0,
+            uncut: 0,
         })
     }
 
     /// The last end.
+    #[inline(always)]
     pub fn last(&self) -> LeadEnd
         ensures { (p : ProblemParts) (t : NumberParts) (node : List ℕ) → AreEnds p t node self.now → IsEnd p t node result }
     {
-        self.last
+        LeadEnd {
+            uncut: self.uncut,
+            ..self.last
+        }
     }
 
     /// Appends an end.
+    #[inline(always)]
     pub fn push(&mut self, end: LeadEnd)
         requires { length self.old < 1025 }
         ensures { (p : ProblemParts) (t : NumberParts) (node : List ℕ) (step : ℕ) → AreEnds p t node self.old
             → IsEnd p t (child node step) end → AreEnds p t (child node step) self.new }
     {
-        self.ends[self.count] = self.last;
+        self.ends[self.count] = LeadEnd {
+            uncut: self.uncut,
+            ..self.last
+        };
         self.count += 1;
         self.last = end;
+        self.uncut = end.uncut;
     }
 
     /// Removes the last end.
+    #[inline(always)]
     pub fn pop(&mut self)
         requires { 1 < length self.old }
         ensures { (p : ProblemParts) (t : NumberParts) (node : List ℕ) → 0 < length node → AreEnds p t node self.old
             → AreEnds p t (take (length node - 1) node) self.new }
     {
         self.count -= 1;
-        self.last = self.ends[self.count];
+        let end = self.ends[self.count];
+        self.last = end;
+        self.uncut = end.uncut;
     }
 
     /// Keeps by which steps the children of the last end are not cut.
+    #[inline(always)]
     pub fn keep_uncut(&mut self, uncut: u32)
         ensures { (p : ProblemParts) (t : NumberParts) (node : List ℕ) → AreEnds p t node self.old → AreUncut p node uncut
             → AreEnds p t node self.new }
     {
-        self.last.uncut = uncut;
+        self.uncut = uncut;
     }
 }

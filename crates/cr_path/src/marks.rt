@@ -34,6 +34,7 @@ impl Marks {
     }
 
     /// The number of leads whose telling rows are marked.
+    #[inline(always)]
     pub fn fresh(&self) -> usize
         ensures { result ≡ self.now.fresh }
     {
@@ -41,6 +42,7 @@ impl Marks {
     }
 
     /// Whether the first row is marked.
+    #[inline(always)]
     pub fn has_first(&self) -> bool
         requires { 0 < length self.now.marks }
         ensures { result ≡ get_or self.now.marks 0 false }
@@ -49,6 +51,7 @@ impl Marks {
     }
 
     /// Whether one of a lead's numbers is marked.
+    #[inline(always)]
     pub fn has_some(&self, numbers: &[u32]) -> bool
         requires { All (λ number. number < length self.now.marks) numbers.now }
         ensures { result ≡ some_marked self.now.marks numbers.now }
@@ -57,6 +60,7 @@ impl Marks {
     }
 
     /// Marks the telling rows of one lead more, if its rows are new.
+    #[inline(always)]
     pub fn add(&mut self, numbers: &[u32], is_new: bool)
         requires within { All (λ number. number < length self.old.marks) numbers.now }
         requires few { self.old.fresh ≤ 1024 }
@@ -71,6 +75,7 @@ impl Marks {
     }
 
     /// Takes the marks of the last of so many leads away, if those of all of them are marked.
+    #[inline(always)]
     pub fn take_back(&mut self, leads: usize, numbers: &[u32])
         requires within { All (λ number. number < length self.old.marks) numbers.now }
         requires some { 0 < leads }
@@ -86,6 +91,7 @@ impl Marks {
 }
 
 // Whether one of the numbers is marked. All of them are looked at, which takes less time than to leave early.
+#[inline(always)]
 fn some_marked(marks: &[bool], numbers: &[u32]) -> bool
     requires { All (λ number. number < length marks.now) numbers.now }
     ensures { result ≡ some_marked marks.now numbers.now }
@@ -98,6 +104,7 @@ fn some_marked(marks: &[bool], numbers: &[u32]) -> bool
 }
 
 // Sets the marks of a lead's numbers.
+#[inline(always)]
 fn set_all(marks: &mut [bool], numbers: &[u32], mark: bool)
     requires { All (λ number. number < length marks.old) numbers.now }
     ensures { AreSet mark numbers.now marks.old marks.new }

@@ -95,6 +95,7 @@ impl<'a, const WIDTH: usize> Path<'a, WIDTH> {
 
     /// Goes to the child with the least step from this one on that is not dead, and gives the step. None where there
     /// is no such child: the walk stays then. It takes no memory.
+    #[inline(always)]
     pub fn go_down(&mut self, from: u8) -> Option<u8>
         requires valid { IsValid self.old.problem self.old.node }
         requires from { from ≤ length self.old.problem.leads }
@@ -117,6 +118,7 @@ impl<'a, const WIDTH: usize> Path<'a, WIDTH> {
     }
 
     /// Goes back to the node without the last step, and gives that step. It takes no memory.
+    #[inline(always)]
     pub fn go_up(&mut self) -> u8
         requires { 0 < length self.old.node }
         ensures problem { self.new.problem ≡ self.old.problem }
@@ -141,6 +143,7 @@ impl<'a, const WIDTH: usize> Path<'a, WIDTH> {
     }
 
     /// The steps of the node.
+    #[inline(always)]
     pub fn steps(&self) -> &[u8]
         ensures is { result.now ≡ self.now.node }
         ensures few { length self.now.node ≤ 1024 }
@@ -168,6 +171,7 @@ impl<'a, const WIDTH: usize> Path<'a, WIDTH> {
     }
 
     /// Whether the node's touch, which is so many times the node as the query has parts, ends in rounds.
+    #[inline(always)]
     pub fn comes_home(&self) -> bool
         ensures { IsTrue result ↔ (head_of self.now.problem (touch_of self.now.problem self.now.node) ≡ rounds self.now.problem.stage) }
     {
@@ -175,6 +179,7 @@ impl<'a, const WIDTH: usize> Path<'a, WIDTH> {
     }
 
     /// Whether a row of the node stands twice.
+    #[inline(always)]
     pub fn has_repeat(&self) -> bool
         ensures { result ≡ not (rows_differ (rows_of self.now.problem self.now.node)) }
     {
@@ -217,6 +222,7 @@ impl<'a, const WIDTH: usize> Path<'a, WIDTH> {
     }
 
     // Whether no row of the node stands twice, and none is rounds.
+    #[inline(always)]
     fn is_clean(&self) -> bool
         ensures { result ≡ is_clean self.now.problem self.now.node }
     {
@@ -224,6 +230,7 @@ impl<'a, const WIDTH: usize> Path<'a, WIDTH> {
     }
 
     // The least step from this one on by which the node's child is not cut.
+    #[inline(always)]
     fn first_uncut(&mut self, from: u8) -> Option<u8>
         requires from { from ≤ length self.old.problem.leads }
         ensures first { IsFirstUncut self.old.problem most_rows self.old.node from result }
@@ -239,6 +246,7 @@ impl<'a, const WIDTH: usize> Path<'a, WIDTH> {
     }
 
     // The known set of steps by which the node's children are not cut. It is found once.
+    #[inline(always)]
     fn uncut_children(&mut self) -> u32
         ensures known { is_known result ≡ true }
         ensures are { AreUncut self.old.problem self.old.node result }
@@ -254,6 +262,7 @@ impl<'a, const WIDTH: usize> Path<'a, WIDTH> {
     }
 
     // The same, found. All children of a node that is not clean are cut.
+    #[inline(always)]
     fn find_uncut(&self, end: LeadEnd) -> u32
         requires end { IsEnd self.now.problem self.now.numbers self.now.node end }
         ensures known { is_known result ≡ true }
@@ -268,6 +277,7 @@ impl<'a, const WIDTH: usize> Path<'a, WIDTH> {
     }
 
     // The same of a clean node, found by looking at each child.
+    #[inline(always)]
     fn judge_children(&self, end: LeadEnd) -> u32
         requires clean { is_clean self.now.problem self.now.node ≡ true }
         requires end { IsEnd self.now.problem self.now.numbers self.now.node end }
@@ -284,6 +294,7 @@ impl<'a, const WIDTH: usize> Path<'a, WIDTH> {
 
     // The least step by which the child does not turn back, or the number of steps. Where the query is the same for all
     // rotations, the children by all lesser steps turn back, and those by greater ones do not.
+    #[inline(always)]
     fn first_straight(&self) -> u8
         ensures few { result ≤ length self.now.problem.leads }
         ensures turned { (step : ℕ) → step < result → is_turned_back self.now.problem (child self.now.node step) ≡ true }
@@ -301,6 +312,7 @@ impl<'a, const WIDTH: usize> Path<'a, WIDTH> {
     }
 
     // The number of steps of the problem.
+    #[inline(always)]
     fn step_count(&self) -> u8
         ensures is { result ≡ length self.now.problem.leads }
         ensures few { result ≤ 24 }
@@ -311,6 +323,7 @@ impl<'a, const WIDTH: usize> Path<'a, WIDTH> {
     }
 
     // Where the node ends.
+    #[inline(always)]
     fn last_end(&self) -> LeadEnd
         ensures { IsEnd self.now.problem self.now.numbers self.now.node result }
     {
@@ -318,6 +331,7 @@ impl<'a, const WIDTH: usize> Path<'a, WIDTH> {
     }
 
     // The record of a step that is rung where the node ends.
+    #[inline(always)]
     fn lead_after(&self, end: LeadEnd, step: u8) -> LeadRecord
         requires end { IsEnd self.now.problem self.now.numbers self.now.node end }
         requires step { step < length self.now.problem.leads }
@@ -327,6 +341,7 @@ impl<'a, const WIDTH: usize> Path<'a, WIDTH> {
     }
 
     // The numbers of its telling rows.
+    #[inline(always)]
     fn numbers_after(&self, end: LeadEnd, step: u8) -> &[u32]
         requires end { IsEnd self.now.problem self.now.numbers self.now.node end }
         requires step { step < length self.now.problem.leads }
@@ -338,6 +353,7 @@ impl<'a, const WIDTH: usize> Path<'a, WIDTH> {
     }
 
     // Whether the child of a clean node by a step is dead, if it does not turn back, but for rows that fit patterns.
+    #[inline(always)]
     fn is_cut(&self, end: LeadEnd, step: u8) -> bool
         requires clean { is_clean self.now.problem self.now.node ≡ true }
         requires end { IsEnd self.now.problem self.now.numbers self.now.node end }
@@ -354,6 +370,7 @@ impl<'a, const WIDTH: usize> Path<'a, WIDTH> {
     }
 
     // Goes to the child by a step, which is not cut, if it is not dead, and says so.
+    #[inline(always)]
     fn goes_live(&mut self, step: u8) -> bool
         requires step { step < length self.old.problem.leads }
         requires uncut { is_cut self.old.problem most_rows (child self.old.node step) ≡ false }
@@ -372,6 +389,7 @@ impl<'a, const WIDTH: usize> Path<'a, WIDTH> {
     }
 
     // Whether the node, which is not hopeless by its leads, has too many or too few rows that fit a pattern.
+    #[inline(always)]
     fn is_hopeless(&self) -> bool
         requires { is_hopeless_by_leads self.now.problem self.now.node ≡ false }
         ensures { result ≡ is_hopeless self.now.problem self.now.node }
@@ -402,6 +420,7 @@ impl<'a, const WIDTH: usize> Path<'a, WIDTH> {
     }
 
     // Goes to the child by a step, of whose rows it is known whether they differ.
+    #[inline(always)]
     fn go(&mut self, step: u8, is_new: bool)
         requires few { length self.old.node < 1024 }
         requires valid { IsValid self.old.problem (child self.old.node step) }
@@ -424,6 +443,7 @@ impl<'a, const WIDTH: usize> Path<'a, WIDTH> {
     }
 
     // Goes back to the node without the last step.
+    #[inline(always)]
     fn back(&mut self)
         requires { 0 < length self.old.node }
         ensures { self.new ≡ path_from self.old.problem self.old.numbers (parent self.old.node) }

@@ -7,6 +7,7 @@ ghost use Rattle.cr_path.specs.Sets.{has_step, is_known};
 const KNOWN: u32 = 1 << 31;
 
 /// The known set without steps.
+#[inline(always)]
 pub fn no_steps() -> u32
     ensures known { is_known result ≡ true }
     ensures none { (step : ℕ) → step < 31 → has_step result step ≡ false }
@@ -15,6 +16,7 @@ pub fn no_steps() -> u32
 }
 
 /// Whether a set is known.
+#[inline(always)]
 pub fn is_known(set: u32) -> bool
     ensures { result ≡ is_known set }
 {
@@ -22,6 +24,7 @@ pub fn is_known(set: u32) -> bool
 }
 
 /// The set with a step more, which it has not yet, if it is to be in it.
+#[inline(always)]
 pub fn with_step(set: u32, step: u8, is_in: bool) -> u32
     requires step { step < 31 }
     requires new { has_step set step ≡ false }
@@ -32,6 +35,7 @@ pub fn with_step(set: u32, step: u8, is_in: bool) -> u32
 }
 
 /// The set without the steps below one.
+#[inline(always)]
 pub fn without_below(set: u32, first: u8) -> u32
     requires { first ≤ 31 }
     ensures below { (step : ℕ) → step < first → has_step result step ≡ false }
@@ -41,6 +45,7 @@ pub fn without_below(set: u32, first: u8) -> u32
 }
 
 /// The least step from this one on of a known set, or 31 where it has none.
+#[inline(always)]
 pub fn least_from(set: u32, from: u8) -> u8
     requires known { is_known set ≡ true }
     requires from { from ≤ 31 }

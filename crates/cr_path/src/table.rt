@@ -139,6 +139,7 @@ impl NumberTable {
     }
 
     /// The place of the lead of a step from the head whose records start here.
+    #[inline(always)]
     pub(crate) fn place(&self, base: u32, step: u8) -> usize
         requires base { StartsHead self.now base }
         requires step { step < self.now.steps }
@@ -151,6 +152,7 @@ impl NumberTable {
     }
 
     /// The record of the lead at a place.
+    #[inline(always)]
     pub(crate) fn lead_at(&self, place: usize) -> LeadRecord
         requires { place < length self.now.records }
         ensures { result ≡ get_or self.now.records place result }
@@ -159,6 +161,7 @@ impl NumberTable {
     }
 
     /// The numbers of the telling rows of the lead at a place, as many for each lead.
+    #[inline(always)]
     pub(crate) fn numbers_at<const WIDTH: usize>(&self, place: usize) -> &[u32]
         requires place { place < length self.now.records }
         requires width { self.now.width ≡ WIDTH }

@@ -59,6 +59,7 @@ impl<'a, const WIDTH: usize> NumberWalk<'a, WIDTH> {
 
     /// Goes to the child with the least step from this one on that is not dead, and gives the step. None where there
     /// is no such child: the walk stays then. It takes no memory.
+    #[inline(always)]
     pub fn go_down(&mut self, from: u8) -> Option<u8>
         requires valid { IsValid self.old.problem self.old.node }
         requires from { from ≤ length self.old.problem.leads }
@@ -71,6 +72,7 @@ impl<'a, const WIDTH: usize> NumberWalk<'a, WIDTH> {
     }
 
     /// Goes back to the node without the last step, and gives that step. It takes no memory.
+    #[inline(always)]
     pub fn go_up(&mut self) -> u8
         requires { 0 < length self.old.node }
         ensures problem { self.new.problem ≡ self.old.problem }
@@ -88,6 +90,7 @@ impl<'a, const WIDTH: usize> NumberWalk<'a, WIDTH> {
     }
 
     /// The steps of the node.
+    #[inline(always)]
     pub fn steps(&self) -> &[u8]
         ensures is { result.now ≡ self.now.node }
         ensures few { length self.now.node ≤ 1024 }
@@ -115,6 +118,7 @@ impl<'a, const WIDTH: usize> NumberWalk<'a, WIDTH> {
     }
 
     /// Whether the node's touch, which is so many times the node as the query has parts, ends in rounds.
+    #[inline(always)]
     pub fn comes_home(&self) -> bool
         ensures { IsTrue result ↔ (head_of self.now.problem (touch_of self.now.problem self.now.node) ≡ rounds self.now.problem.stage) }
     {

@@ -1,6 +1,6 @@
 //! The period of a word that grows and shrinks at its end.
 
-ghost use Rattle.std.specs.Prelude.{◌≡◌, ◌+◌, ◌-◌, ◌<◌, ◌≤◌, ℕ, ◌↔◌, List, [], ◌∷◌, ◌++◌, length, take, IsTrue, IfOk, IfSome, vec_len, vec_capacity};
+ghost use Rattle.std.specs.Prelude.{◌≡◌, ◌+◌, ◌-◌, ◌<◌, ◌≤◌, ℕ, ◌↔◌, List, [], ◌∷◌, ◌++◌, length, take, IsTrue, IfOk, IfSome};
 ghost use Rattle.cr_model.specs.Turning.{TurnsBack, IsLeastRotation};
 ghost use Rattle.cr_rotate.specs.Fronts.{FrontRepeats, IsKept, Tells};
 
@@ -17,20 +17,24 @@ const ROOM: usize = 1024;
 /// it is the least of its rotations.
 #[derive(Drop)]
 pub struct Period {
+    // As many as a word may have: those after the word's are of no word.
     steps: Vec<u8>,
     // Of each front that does not turn back its period, and of the others 0.
     periods: Vec<u16>,
+    // How many steps the word has.
+    count: usize,
 }
 
 impl Model for Period {
-    ghost use Rattle.std.specs.Prelude.{ℕ, ◌≤◌, List, vec_capacity};
+    ghost use Rattle.std.specs.Prelude.{◌≡◌, ℕ, ◌≤◌, List, length, take};
     ghost use Rattle.cr_rotate.specs.Fronts.{IsKept};
 
     ghost Value = { List ℕ };
 
-    ghost view = { λ p. p.steps.items };
+    ghost view = { λ p. take p.count p.steps.items };
 
-    ghost invariant = { λ p. IsKept p.steps.items p.periods.items × (1024 ≤ vec_capacity p.steps) × (1024 ≤ vec_capacity p.periods) };
+    ghost invariant = { λ p. IsKept (take p.count p.steps.items) (take p.count p.periods.items)
+        × (length p.steps.items ≡ 1024) × (length p.periods.items ≡ 1024) × (p.count ≤ 1024) };
 }
 
 impl Period {
@@ -39,46 +43,58 @@ impl Period {
     pub fn new(alloc: Global) -> Result<Period, NoMemory>
         ensures { IfOk result (λ period. period ≡ []) }
     {
-        let steps = Vec::with_capacity(alloc, ROOM)?;
-        let periods = Vec::with_capacity(alloc, ROOM)?;
-        Ok(Period { steps, periods })
+        let steps = Vec::from_elem(alloc, 0, ROOM)?;
+        let periods = Vec::from_elem(alloc, 0, ROOM)?;
+        Ok(Period {
+            steps,
+            periods,
+            count: 0,
+        })
     }
 
     /// The steps of the word.
+    #[inline(always)]
     pub fn steps(&self) -> &[u8]
         ensures is { result.now ≡ self.now }
         ensures few { length self.now ≤ 1024 }
     {
-        self.steps.as_slice()
+        &self.steps[..self.count]
+    }
+
+    // What is kept of each of its fronts.
+    #[inline(always)]
+    fn periods(&self) -> &[u16]
+        ensures { IsKept self.now result.now }
+    {
+        &self.periods[..self.count]
     }
 
     /// Appends a step.
-    #[tactic(auto, using(crate::proofs::Kept::one_more))]
+    #[inline(always)]
     pub fn push(&mut self, step: u8)
         requires { length self.old < 1024 }
         ensures { self.new ≡ self.old ++ step ∷ [] }
     {
-        let period = next_period(&self.steps, &self.periods, step);
-        put(&mut self.steps, step);
-        put(&mut self.periods, period);
+        let period = next_period(self.steps(), self.periods(), step);
+        self.steps[self.count] = step;
+        self.periods[self.count] = period;
+        self.count += 1;
     }
 
     /// Removes the last step.
-    #[tactic(auto, using(crate::proofs::Kept::cut))]
+    #[inline(always)]
     pub fn pop(&mut self)
         requires { 0 < length self.old }
         ensures { self.new ≡ take (length self.old - 1) self.old }
     {
-        let left = self.steps.len() - 1;
-        self.steps.truncate(left);
-        self.periods.truncate(left);
+        self.count -= 1;
     }
 
     /// Whether some proper suffix of the word, not empty, is less than the prefix of the same length.
     pub fn turns_back(&self) -> bool
         ensures { IsTrue result ↔ TurnsBack self.now }
     {
-        turns(&self.steps, &self.periods)
+        turns(self.steps(), self.periods())
     }
 
     /// Whether the word with this step more turns back.
@@ -86,21 +102,22 @@ impl Period {
     pub fn turns_back_with(&self, step: u8) -> bool
         ensures { IsTrue result ↔ TurnsBack (self.now ++ step ∷ []) }
     {
-        next_period(&self.steps, &self.periods, step) == 0
+        next_period(self.steps(), self.periods(), step) == 0
     }
 
     /// The least step with which the word does not turn back, or None where it turns back with each step.
+    #[inline(always)]
     pub fn first_straight(&self) -> Option<u8>
         ensures { (step : ℕ) → TurnsBack (self.now ++ step ∷ []) ↔ IfSome result (λ first. step < first) }
     {
-        first_straight(&self.steps, &self.periods)
+        first_straight(self.steps(), self.periods())
     }
 
     /// Whether no rotation of the word is less than it.
     pub fn is_least(&self) -> bool
         ensures { IsTrue result ↔ IsLeastRotation self.now }
     {
-        is_least_rotation(&self.steps, &self.periods)
+        is_least_rotation(self.steps(), self.periods())
     }
 }
 
@@ -131,6 +148,7 @@ fn is_least_rotation(steps: &[u8], periods: &[u16]) -> bool
 
 // What is kept for the whole word.
 #[tactic(auto, using(crate::proofs::Kept::whole))]
+#[inline(always)]
 fn last_period(steps: &[u8], periods: &[u16]) -> u16
     requires kept { IsKept steps.now periods.now }
     requires some { 0 < length steps.now }
@@ -141,6 +159,7 @@ fn last_period(steps: &[u8], periods: &[u16]) -> u16
 
 // What is kept for a word with one step more.
 #[tactic(auto, using(crate::proofs::Kept::of_one, crate::proofs::Kept::of_turned, crate::proofs::Kept::of_period))]
+#[inline(always)]
 fn next_period(steps: &[u8], periods: &[u16], step: u8) -> u16
     requires { IsKept steps.now periods.now }
     ensures { Tells (steps.now ++ step ∷ []) (length steps.now + 1) result }
@@ -158,22 +177,26 @@ fn next_period(steps: &[u8], periods: &[u16], step: u8) -> u16
 
 // The same, of a word that does not turn back and has this period.
 #[tactic(auto, using(crate::proofs::Kept::of_same))]
+#[inline(always)]
 fn longer(steps: &[u8], period: u16, step: u8) -> u16
     requires front { FrontRepeats steps.now (length steps.now) period }
     requires few { length steps.now ≤ 1024 }
     ensures { Tells (steps.now ++ step ∷ []) (length steps.now + 1) result }
 {
     let before = steps[steps.len() - usize::from(period)];
+    // It is at hand before it is asked for, which spares a jump.
+    let whole = (steps.len() + 1) as u16;
     if step < before {
         0
     } else if step == before {
         period
     } else {
-        (steps.len() + 1) as u16
+        whole
     }
 }
 
 // The least step with which the word does not turn back. None where it turns back with each.
+#[inline(always)]
 fn first_straight(steps: &[u8], periods: &[u16]) -> Option<u8>
     requires { IsKept steps.now periods.now }
     ensures { (step : ℕ) → TurnsBack (steps.now ++ step ∷ []) ↔ IfSome result (λ first. step < first) }
@@ -185,17 +208,5 @@ fn first_straight(steps: &[u8], periods: &[u16]) -> Option<u8>
         0 => None,
         // The word repeats its first steps so far.
         period => Some(steps[steps.len() - period]),
-    }
-}
-
-// Appends an item to a list that has room for it.
-fn put<T: Drop>(list: &mut Vec<T>, item: T)
-    requires { vec_len list.old < vec_capacity list.old }
-    ensures items { list.new.items ≡ list.old.items ++ item ∷ [] }
-    ensures room { vec_capacity list.old ≤ vec_capacity list.new }
-{
-    match list.push(item) {
-        Ok(()) => (),
-        Err(_) => unreachable!(),
     }
 }

@@ -1,4 +1,3 @@
-use Rattle.std.proofs.Common.{◌≡◌}
 use Rattle.cr_explore.proofs.Short.{touch_is_short}
 use Rattle.cr_explore.proofs.touches.touch_of.Goals as goal
 

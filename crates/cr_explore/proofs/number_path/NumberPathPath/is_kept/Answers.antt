@@ -1,4 +1,4 @@
-use Rattle.std.proofs.Common.{ℕ, List, ◌≡◌, Bool, ◌↔◌, IsTrue, IfOk, refl, sym, ap, ap₂, ◌∙◌, subst}
+use Rattle.std.proofs.Common.{ℕ, List, ◌≡◌, Bool, IfOk, sym, ap, ap₂, ◌∙◌, subst}
 use Rattle.cr_model.specs.Problems.{ProblemParts}
 use Rattle.cr_model.specs.Decided.{is_kept}
 use Rattle.cr_model.specs.OneTurn.{touch_of}

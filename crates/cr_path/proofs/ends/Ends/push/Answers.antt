@@ -9,5 +9,6 @@ use Rattle.cr_path.proofs.ends.Ends.push.Goals as goal
 pub returns : goal.returns
 returns c p t node step are is =
     let e = c.self.inside in
-    subst (λ (ends : List LeadEnd). AreEnds p t (child node step) (ends ++ c.args.end ∷ [])) (sym (take_more_set e.ends.items e.count e.last (omega (arith, c.self.invariant.0, c.self.invariant.1))))
-    (end_more p t node step (take e.count e.ends.items ++ e.last ∷ []) c.args.end (subst (AreEnds p t node) (sym c.self.view_is) are) is)
+    let last : LeadEnd = record { base = e.last.base; rung = e.last.rung; uncut = e.uncut; home = e.last.home } in
+    subst (λ (ends : List LeadEnd). AreEnds p t (child node step) (ends ++ c.args.end ∷ [])) (sym (take_more_set e.ends.items e.count last (omega (arith, c.self.invariant.0, c.self.invariant.1))))
+    (end_more p t node step (take e.count e.ends.items ++ last ∷ []) c.args.end (subst (AreEnds p t node) (sym c.self.view_is) are) is)
