@@ -8,3 +8,4 @@ pub mod Dealing
 pub mod EachMade
 pub mod Parts
 pub mod Lines
+pub mod Fronts

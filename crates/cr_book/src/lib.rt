@@ -17,7 +17,7 @@ mod texts;
 
 pub use fault::CallingFault;
 pub use order::sort_found;
-pub use pieces::book_pieces;
+pub use pieces::{BookPieces, book_pieces};
 pub use reading::read_calling;
 pub use summary::summary_text;
 pub use texts::{book_text, calling_text};

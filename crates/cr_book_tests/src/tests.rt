@@ -261,7 +261,7 @@ fn found_touches_are_printed(rt: HostRuntime) -> Result<(), Fail> {
     for threads in [0, 1, 3, 8] {
         for &(rows, want) in SORTINGS {
             let found = known_callings(alloc, &problem, rows)?;
-            let pieces = book_pieces(&rt, alloc, threads, &problem, found, &[])?;
+            let pieces = book_pieces(&rt, alloc, threads, &problem, found, &[])?.pieces;
             if joined(alloc, &pieces)?.as_slice() != want.as_bytes() {
                 return Err(Fail::from(want));
             }
@@ -368,7 +368,7 @@ fn printed<R: Threads + Sync>(
     handed: &[u64],
 ) -> Result<Vec<u8>, Fail> {
     let found = many_callings(alloc, problem, order)?;
-    let pieces = book_pieces(rt, alloc, threads, problem, found, handed)?;
+    let pieces = book_pieces(rt, alloc, threads, problem, found, handed)?.pieces;
     joined(alloc, &pieces)
 }
 

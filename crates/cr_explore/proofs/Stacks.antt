@@ -3,8 +3,7 @@ use Rattle.std.proofs.Common.{◌≡◌, ℕ, ◌+◌, ◌≤◌, List, [], ◌�
 use Rattle.std.proofs.lemmas.List.{reverse-append, take-append-le, drop-append-le, drop_all}
 use Rattle.cr_model.specs.Problems.{ProblemParts}
 use Rattle.cr_model.specs.Sizes.{child}
-use Rattle.cr_explore.specs.declared.search.Place.{Place}
-use Rattle.cr_explore.specs.Stacks.{first_live, live_from, untried, left_below, stack_of}
+use Rattle.cr_explore.specs.Stacks.{Place, first_live, live_from, untried, left_below, stack_of}
 use Rattle.cr_explore.proofs.Live.{IsFirstLive, none_live, none_past}
 
 -- one more in front is the last one backwards

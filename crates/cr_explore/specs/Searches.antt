@@ -1,5 +1,5 @@
 -- The tables of a search.
-use Rattle.std.specs.Prelude.{◌≡◌, ℕ, ◌<◌, Option, IfSome}
+use Rattle.std.specs.Prelude.{◌≡◌, ℕ, ◌<◌, ◌≤◌, length, Option, IfSome}
 use Rattle.cr_model.specs.Problems.{ProblemParts}
 use Rattle.cr_model.specs.Sizes.{most_rows}
 use Rattle.cr_model.specs.Nodes.{IsValid}
@@ -37,12 +37,13 @@ pub record IsNumberPath (p : ProblemParts) (leads : TableParts) (numbers : Numbe
   pub numbered : IsNumbered p numbers
   pub walk_of : walk.problem ≡ p
 
--- the path's walk and pruner are of the problem, and so are its tables
-pub record IsWalkPath (p : ProblemParts) (leads : TableParts) (walk : WalkParts) (pruner : PrunerParts) : Type 0 where
+-- the path's walk and pruner are of the problem, and so are its tables, and the next step is one of the problem's, or all are tried
+pub record IsWalkPath (p : ProblemParts) (leads : TableParts) (walk : WalkParts) (pruner : PrunerParts) (next : ℕ) : Type 0 where
   pub table : leads ≡ lead_table p
   pub walk_of : walk.problem ≡ p
   pub pruner_of : pruner.problem ≡ p
   pub reach : pruner.reach ≡ reach_table p most_rows
+  pub tried : next ≤ length p.leads
 
 -- a walk at a valid node, and a pruner of its problem
 pub record IsReady (walk : WalkParts) (pruner : PrunerParts) : Type 0 where

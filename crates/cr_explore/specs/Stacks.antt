@@ -6,7 +6,15 @@ use Rattle.cr_model.specs.Nodes.{IsValid}
 use Rattle.cr_model.specs.Sound.{IsSound}
 use Rattle.cr_model.specs.Dead.{dead}
 use Rattle.cr_model.specs.Sizes.{child}
-use Rattle.cr_explore.specs.declared.search.Place.{Place}
+
+-- where a search stands, beside its path: how many nodes of the job are not taken yet, how many steps the last one taken has, which is where the path begins, and the step from which on the children of the path's node are not tried yet
+pub record Place : Type 0 where
+  pub left : ℕ
+  pub base : ℕ
+  pub next : ℕ
+
+abbrev pub place_at : ℕ → ℕ → ℕ → Place
+place_at left base next = record { left = left; base = base; next = next }
 
 -- a child that is not dead
 abbrev pub is_live : ProblemParts → ℕ → List ℕ → Bool
@@ -44,11 +52,6 @@ pub record IsPlace (p : ProblemParts) (place : Place) (node : List ℕ) : Type 0
 pub record IsTaken (p : ProblemParts) (most : ℕ) (job : List (List ℕ)) (before : Place) (from : List ℕ) (after : Place) (to : List ℕ) : Type 0 where
   pub next : after.next ≡ 0
   pub last : stack_of p most job before from ≡ left_below p most job after to ++ to ∷ []
-
--- nothing is left
-pub record IsEnded (p : ProblemParts) (most : ℕ) (job : List (List ℕ)) (before : Place) (from : List ℕ) (after : Place) (to : List ℕ) : Type 0 where
-  pub first : stack_of p most job before from ≡ []
-  pub now : stack_of p most job after to ≡ []
 
 -- nothing is left but what is not taken yet of the job
 pub record IsPathEnded (p : ProblemParts) (most : ℕ) (job : List (List ℕ)) (before : Place) (from : List ℕ) (after : Place) (to : List ℕ) : Type 0 where

@@ -30,7 +30,7 @@ use std::alloc::Global;
 /// count or is not the least of its rotations, nothing is rung. Where a row of the touch stands twice, or all rotations
 /// of a touch meet the query or none, half of the further parts are rung at most, and no memory is taken. Err where no
 /// memory is left.
-#[inline(never)]
+#[inline(always)]
 pub fn is_touch_kept<W: Standing>(
     alloc: Global,
     problem: &Problem,
@@ -93,7 +93,7 @@ fn is_told_by_patterns(problem: &Problem) -> bool
 }
 
 // Whether the touch of a walk's node is kept, where patterns tell its rotations apart.
-#[inline(never)]
+#[inline(always)]
 fn is_best_touch<const WIDTH: usize>(
     problem: &Problem,
     numbers: &NumberTable,
@@ -118,6 +118,7 @@ fn is_best_touch<const WIDTH: usize>(
 }
 
 // Whether what the walk tells of its node allows that the touch is kept.
+#[inline(always)]
 fn may_be_kept<W: Standing>(problem: &Problem, walk: &W) -> bool
     requires { W.problem_of walk.now ≡ problem.now }
     ensures { IsTrue result ↔ MayBeKept problem.now (W.node_of walk.now) }
@@ -130,6 +131,7 @@ fn may_be_kept<W: Standing>(problem: &Problem, walk: &W) -> bool
 }
 
 // Whether the node has steps, and its touch ends in rounds.
+#[inline(always)]
 fn comes_home<W: Standing>(problem: &Problem, walk: &W) -> bool
     requires { W.problem_of walk.now ≡ problem.now }
     ensures { IsTrue result ↔ ((W.node_of walk.now ≢ []) × (head_of problem.now (touch_of problem.now (W.node_of walk.now)) ≡ rounds problem.now.stage)) }
@@ -137,6 +139,7 @@ fn comes_home<W: Standing>(problem: &Problem, walk: &W) -> bool
     walk.comes_home(problem) && has_steps(walk.steps())
 }
 
+#[inline(always)]
 fn has_steps(node: &[u8]) -> bool
     ensures { IsTrue result ↔ (node.now ≢ []) }
 {
@@ -144,6 +147,7 @@ fn has_steps(node: &[u8]) -> bool
 }
 
 // Whether the counts of marks and those of methods are met.
+#[inline(always)]
 fn meets_counts<W: Standing>(problem: &Problem, walk: &W) -> bool
     requires { W.problem_of walk.now ≡ problem.now }
     ensures { IsTrue result ↔ (MeetsCounts problem.now (touch_of problem.now (W.node_of walk.now))
@@ -153,6 +157,7 @@ fn meets_counts<W: Standing>(problem: &Problem, walk: &W) -> bool
 }
 
 // Whether no rotation of the node is less than it, if all rotations of a touch meet the query or none.
+#[inline(always)]
 fn is_least_if_asked<W: Standing>(problem: &Problem, walk: &W) -> bool
     ensures { IsTrue result ↔ (turn_free problem.now.query ≡ true → IsLeastRotation (W.node_of walk.now)) }
 {
@@ -160,6 +165,7 @@ fn is_least_if_asked<W: Standing>(problem: &Problem, walk: &W) -> bool
 }
 
 // Whether the rows of the touch, which comes home, differ.
+#[inline(always)]
 fn has_different_rows<W: Standing>(walk: &W) -> bool
     requires sound { IsSound (W.problem_of walk.now) }
     requires home { head_of (W.problem_of walk.now) (touch_of (W.problem_of walk.now) (W.node_of walk.now)) ≡ rounds (W.problem_of walk.now).stage }

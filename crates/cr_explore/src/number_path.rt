@@ -1,6 +1,6 @@
 //! A path by numbers.
 
-ghost use Rattle.std.specs.Prelude.{◌≡◌, [], IfOk};
+ghost use Rattle.std.specs.Prelude.{◌≡◌, [], length, IfOk};
 ghost use Rattle.cr_leads.specs.Tables.{lead_table};
 ghost use Rattle.cr_path.specs.Numbers.{IsNumbered};
 
@@ -16,7 +16,7 @@ use std::marker::Model;
 
 /// A path that looks up the rows of its leads by their numbers, where each lead has so many.
 ///
-/// It is seen as the problem and the node.
+/// It is seen as the problem, the node and the step from which on the node's children are not tried yet.
 #[derive(Drop)]
 pub struct NumberPath<'a, const WIDTH: usize> {
     problem: &'a Problem,
@@ -37,7 +37,7 @@ impl<'a, const WIDTH: usize> Model for NumberPath<'a, WIDTH> {
 }
 
 impl<'a, const WIDTH: usize> NumberPath<'a, WIDTH> {
-    /// The path at the node without steps. Err where no memory is left.
+    /// The path at the node without steps, whose children are all tried. Err where no memory is left.
     pub fn new(
         alloc: Global,
         problem: &'a Problem,
@@ -47,7 +47,7 @@ impl<'a, const WIDTH: usize> NumberPath<'a, WIDTH> {
         requires leads { leads.now ≡ lead_table problem.now }
         requires numbers { IsNumbered problem.now numbers.now }
         requires width { numbers.now.width ≡ WIDTH }
-        ensures { IfOk result (λ path. path ≡ record { problem = problem.now; node = [] }) }
+        ensures { IfOk result (λ path. path ≡ record { problem = problem.now; node = []; next = length problem.now.leads }) }
     {
         let walk = NumberWalk::new(alloc, problem, leads, numbers)?;
         Ok(NumberPath {
@@ -64,6 +64,9 @@ impl<'a, const WIDTH: usize> Path for NumberPath<'a, WIDTH> {
 
     ghost node_of = { λ w. w.node };
 
+    ghost next_of = { λ w. w.next };
+
+    #[inline(always)]
     fn problem(&self) -> &Problem {
         self.problem
     }
@@ -73,14 +76,17 @@ impl<'a, const WIDTH: usize> Path for NumberPath<'a, WIDTH> {
         self.walk.steps()
     }
 
-    fn go_to(&mut self, steps: &[u8]) {
-        self.walk.go_to(steps);
+    #[inline(never)]
+    fn gone_to(self, steps: &[u8]) -> NumberPath<'a, WIDTH> {
+        let mut path = self;
+        path.walk.go_to(steps);
+        path
     }
 
     #[tactic(auto, unfolding(crate::specs::Stacks::first_live))]
     #[inline(always)]
-    fn down(&mut self, from: u8) -> Option<u8> {
-        self.walk.go_down(from)
+    fn down(&mut self) -> Option<u8> {
+        self.walk.go_down()
     }
 
     #[inline(always)]
@@ -88,8 +94,12 @@ impl<'a, const WIDTH: usize> Path for NumberPath<'a, WIDTH> {
         self.walk.go_up()
     }
 
+    fn pass(&mut self) {
+        self.walk.pass();
+    }
+
     #[inline(always)]
-    fn is_kept(&mut self, alloc: Global) -> Result<bool, NoMemory> {
+    fn is_kept(&self, alloc: Global) -> Result<bool, NoMemory> {
         a_test_decides_what_is_kept();
         is_numbered_touch_kept(alloc, self.problem, self.leads, self.numbers, &self.walk)
     }

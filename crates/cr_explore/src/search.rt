@@ -3,17 +3,18 @@
 //! A live child is taken at once, so no lead is rung twice on the way down. The nodes that are left are made only at
 //! the end, from where the path stands. What each turn asks is part of the loop, and what few turns ask is a call.
 
-ghost use Rattle.std.specs.Prelude.{◌≡◌, ℕ, ◌≤◌, ◌++◌, List, All, length, take, reverse, IfOk, IsTrue, false};
+ghost use Rattle.std.specs.Prelude.{◌≡◌, ℕ, ◌≤◌, [], ◌∷◌, ◌++◌, List, All, length, take, reverse, IfOk, IsErr, IsTrue, false};
 ghost use Rattle.cr_model.specs.Nodes.{IsValid};
-ghost use Rattle.cr_model.specs.OneTurn.{touch_found};
+ghost use Rattle.cr_model.specs.OneTurn.{touch_of, touch_found};
 ghost use Rattle.cr_model.specs.Sizes.{most_rows};
-ghost use Rattle.cr_explore.specs.Stacks.{stack_of, IsPlace, IsTaken, IsEnded, IsPathEnded};
+ghost use Rattle.cr_model.specs.Sound.{IsSound};
+ghost use Rattle.cr_explore.specs.Stacks.{place_at, stack_of, IsPlace, IsTaken, IsPathEnded};
 ghost use Rattle.cr_explore.specs.Turns.{after_turns};
 
 use crate::path::Path;
-use crate::touches::{node_from, step_count, touch_of};
-use cr_model::Calling;
+use crate::touches::{node_from, touch_of};
 use cr_model::laws::a_child_is_longer;
+use cr_model::{Calling, Problem};
 use cr_node::Node;
 use cr_row::NoMemory;
 use std::alloc::Global;
@@ -29,133 +30,125 @@ pub struct Explored {
     pub used: u64,
 }
 
-// Where a search stands, beside its path.
-#[derive(Clone, Copy)]
-struct Place {
-    // How many nodes of the job are not taken yet.
-    left: usize,
-    // How many steps the last one taken has, which is where the path begins.
-    base: usize,
-    // The step from which on the children of the path's node are not tried yet.
-    next: u8,
-}
-
 /// At most so many turns on a job, from the last node on: fewer where nothing of the job is left then. Err where no
 /// memory is left.
 pub fn take_turns<P: Path>(
     alloc: Global,
-    path: &mut P,
+    path: P,
     job: &[Node],
     turns: u64,
 ) -> Result<Explored, NoMemory>
-    requires node { IsValid (P.problem_of path.old) (P.node_of path.old) }
-    requires job { All (IsValid (P.problem_of path.old)) job.now }
+    requires sound { IsSound (P.problem_of path) }
+    requires node { IsValid (P.problem_of path) (P.node_of path) }
+    requires tried { P.next_of path ≡ length (P.problem_of path).leads }
+    requires job { All (IsValid (P.problem_of path)) job.now }
     ensures { IfOk result (λ done. record { found = done.found.items; rest = done.rest.items; used = done.used }
-        ≡ after_turns (P.problem_of path.old) most_rows job.now turns) }
+        ≡ after_turns (P.problem_of path) most_rows job.now turns) }
 {
-    let mut place = Place {
-        left: job.len(),
-        base: path.node().len(),
-        next: step_count(path.problem()),
-    };
+    // The path is handed on as a whole to what few turns ask, and lent to nothing that stays a call: so what each turn
+    // asks of it needs no memory of its own.
+    let mut path = path;
+    // How many nodes of the job are not taken yet, and how many steps the last one taken has.
+    let mut left = job.len();
+    let mut base = path.node().len();
     let mut found = Vec::new(alloc);
     let mut used = 0;
     while used < turns {
-        if !go_on(path, &mut place, job) {
-            break;
+        if !descend(&mut path, base) {
+            if left == 0 {
+                break;
+            }
+            left -= 1;
+            let steps = job[left].steps();
+            base = steps.len();
+            path = path.gone_to(steps);
         }
-        find_touch(alloc, path, &mut found)?;
+        if find_touch(alloc, &path, &mut found).is_err() {
+            return without_memory(path);
+        }
         used += 1;
     }
-    let rest = nodes_left(alloc, path, place, job)?;
+    let rest = nodes_left(alloc, path, left, base, job)?;
     Ok(Explored { found, rest, used })
 }
 
-// Goes to the last node that is left. False where none is.
-#[inline(always)]
-fn go_on<P: Path>(path: &mut P, place: &mut Place, job: &[Node]) -> bool
-    requires place { IsPlace (P.problem_of path.old) place.old (P.node_of path.old) }
-    requires left { place.old.left ≤ length job.now }
-    requires job { All (IsValid (P.problem_of path.old)) job.now }
-    ensures problem { P.problem_of path.new ≡ P.problem_of path.old }
-    ensures place { IsPlace (P.problem_of path.new) place.new (P.node_of path.new) }
-    ensures left { place.new.left ≤ place.old.left }
-    ensures goes { IsTrue result
-        → IsTaken (P.problem_of path.old) most_rows job.now place.old (P.node_of path.old) place.new (P.node_of path.new) }
-    ensures ends { result ≡ false
-        → IsEnded (P.problem_of path.old) most_rows job.now place.old (P.node_of path.old) place.new (P.node_of path.new) }
+// No memory is left. The path is let go.
+#[inline(never)]
+fn without_memory<P: Drop>(_path: P) -> Result<Explored, NoMemory>
+    ensures { IsErr result }
 {
-    if descend(path, place) {
-        return true;
-    }
-    if place.left == 0 {
-        return false;
-    }
-    place.left -= 1;
-    let steps = job[place.left].steps();
-    path.go_to(steps);
-    place.base = steps.len();
-    place.next = 0;
-    true
+    Err(NoMemory)
 }
 
-// Goes to the last node that is left on the path. False where none is.
+// Goes to the last node that is left on a path from a node with so many steps on. False where none is.
 #[inline(always)]
-fn descend<P: Path>(path: &mut P, place: &mut Place) -> bool
-    requires { IsPlace (P.problem_of path.old) place.old (P.node_of path.old) }
+fn descend<P: Path>(path: &mut P, base: usize) -> bool
+    requires { IsPlace (P.problem_of path.old) (place_at 0 base (P.next_of path.old)) (P.node_of path.old) }
     ensures problem { P.problem_of path.new ≡ P.problem_of path.old }
-    ensures place { IsPlace (P.problem_of path.new) place.new (P.node_of path.new) }
-    ensures left { place.new.left ≡ place.old.left }
-    ensures goes { IsTrue result → (job : List (List ℕ))
-        → IsTaken (P.problem_of path.old) most_rows job place.old (P.node_of path.old) place.new (P.node_of path.new) }
-    ensures ends { result ≡ false → (job : List (List ℕ))
-        → IsPathEnded (P.problem_of path.old) most_rows job place.old (P.node_of path.old) place.new (P.node_of path.new) }
+    ensures place { IsPlace (P.problem_of path.new) (place_at 0 base (P.next_of path.new)) (P.node_of path.new) }
+    ensures goes { IsTrue result → (left : ℕ) (job : List (List ℕ))
+        → IsTaken (P.problem_of path.old) most_rows job (place_at left base (P.next_of path.old)) (P.node_of path.old)
+        (place_at left base (P.next_of path.new)) (P.node_of path.new) }
+    ensures ends { result ≡ false → (left : ℕ) (job : List (List ℕ))
+        → IsPathEnded (P.problem_of path.old) most_rows job (place_at left base (P.next_of path.old)) (P.node_of path.old)
+        (place_at left base (P.next_of path.new)) (P.node_of path.new) }
 {
     a_child_is_longer();
-    while path.down(place.next).is_none() {
-        if path.node().len() == place.base {
+    while path.down().is_none() {
+        if path.node().len() == base {
             return false;
         }
-        place.next = path.up() + 1;
+        path.up();
     }
-    place.next = 0;
     true
 }
 
 // Appends the touch of the path's node, if it is kept.
 #[inline(always)]
-fn find_touch<P: Path>(
-    alloc: Global,
-    path: &mut P,
-    found: &mut Vec<Calling>,
-) -> Result<(), NoMemory>
-    requires { IsValid (P.problem_of path.old) (P.node_of path.old) }
-    ensures problem { P.problem_of path.new ≡ P.problem_of path.old }
-    ensures node { P.node_of path.new ≡ P.node_of path.old }
-    ensures found { IfOk result (λ _. found.new.items
-        ≡ found.old.items ++ touch_found (P.problem_of path.old) (P.node_of path.old)) }
+fn find_touch<P: Path>(alloc: Global, path: &P, found: &mut Vec<Calling>) -> Result<(), NoMemory>
+    requires { IsValid (P.problem_of path.now) (P.node_of path.now) }
+    ensures { IfOk result (λ _. found.new.items
+        ≡ found.old.items ++ touch_found (P.problem_of path.now) (P.node_of path.now)) }
 {
     if path.is_kept(alloc)? {
-        found.push(touch_of(alloc, path.problem(), path.node())?)?;
+        return add_touch(alloc, path.problem(), path.node(), found);
     }
     Ok(())
 }
 
-// The nodes that are left: of the job, and on the path, which goes back to where it began.
+// Appends the touch of a node.
+#[inline(never)]
+fn add_touch(
+    alloc: Global,
+    problem: &Problem,
+    node: &[u8],
+    found: &mut Vec<Calling>,
+) -> Result<(), NoMemory>
+    requires { IsValid problem.now node.now }
+    ensures { IfOk result (λ _. found.new.items ≡ found.old.items ++ touch_of problem.now node.now ∷ []) }
+{
+    found.push(touch_of(alloc, problem, node)?)?;
+    Ok(())
+}
+
+// The nodes that are left: of the job, and on the path.
+#[inline(never)]
 fn nodes_left<P: Path>(
     alloc: Global,
-    path: &mut P,
-    place: Place,
+    path: P,
+    left: usize,
+    base: usize,
     job: &[Node],
 ) -> Result<Vec<Node>, NoMemory>
-    requires place { IsPlace (P.problem_of path.old) place (P.node_of path.old) }
-    requires left { place.left ≤ length job.now }
-    ensures { IfOk result (λ nodes. nodes.items ≡ stack_of (P.problem_of path.old) most_rows job.now place (P.node_of path.old)) }
+    requires place { IsPlace (P.problem_of path) (place_at 0 base (P.next_of path)) (P.node_of path) }
+    requires left { left ≤ length job.now }
+    ensures { IfOk result (λ nodes. nodes.items ≡ stack_of (P.problem_of path) most_rows job.now (place_at left base (P.next_of path)) (P.node_of path)) }
 {
+    let mut path = path;
     let mut nodes = Vec::new(alloc);
-    take_path(alloc, path, place, &mut nodes)?;
-    for index in 0..place.left {
-        nodes.push(job[place.left - 1 - index].copy(alloc)?)?;
+    take_path(alloc, &mut path, base, &mut nodes)?;
+    for index in 0..left {
+        nodes.push(job[left - 1 - index].copy(alloc)?)?;
     }
     nodes.reverse();
     Ok(nodes)
@@ -165,19 +158,17 @@ fn nodes_left<P: Path>(
 fn take_path<P: Path>(
     alloc: Global,
     path: &mut P,
-    place: Place,
+    base: usize,
     nodes: &mut Vec<Node>,
 ) -> Result<(), NoMemory>
-    requires { IsPlace (P.problem_of path.old) place (P.node_of path.old) }
-    ensures { IfOk result (λ _. (job : List (List ℕ))
-        → stack_of (P.problem_of path.old) most_rows job place (P.node_of path.old) ++ reverse nodes.old.items
-        ≡ take place.left job ++ reverse nodes.new.items) }
+    requires { IsPlace (P.problem_of path.old) (place_at 0 base (P.next_of path.old)) (P.node_of path.old) }
+    ensures { IfOk result (λ _. (left : ℕ) (job : List (List ℕ))
+        → stack_of (P.problem_of path.old) most_rows job (place_at left base (P.next_of path.old)) (P.node_of path.old) ++ reverse nodes.old.items
+        ≡ take left job ++ reverse nodes.new.items) }
 {
-    let mut place = place;
-    let steps = step_count(path.problem());
-    while descend(path, &mut place) {
+    while descend(path, base) {
         nodes.push(node_from(alloc, path.problem(), path.node())?)?;
-        place.next = steps;
+        path.pass();
     }
     Ok(())
 }

@@ -95,30 +95,37 @@ impl<'a, const WIDTH: usize> Standing for NumberWalk<'a, WIDTH> {
 
     ghost node_of = { λ w. w.node };
 
+    #[inline(always)]
     fn steps(&self) -> &[u8] {
         self.steps()
     }
 
+    #[inline(always)]
     fn comes_home(&self, _problem: &Problem) -> bool {
         self.comes_home()
     }
 
+    #[inline(always)]
     fn length(&self) -> u64 {
         self.length()
     }
 
+    #[inline(always)]
     fn has_repeat(&self) -> bool {
         self.has_repeat()
     }
 
+    #[inline(always)]
     fn parts_differ(&self) -> bool {
         self.parts_differ()
     }
 
+    #[inline(always)]
     fn is_least(&self) -> bool {
         self.is_least()
     }
 
+    #[inline(always)]
     fn meets_counts(&self) -> bool {
         self.meets_counts()
     }

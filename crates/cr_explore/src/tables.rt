@@ -198,8 +198,9 @@ fn turns_by_numbers<const WIDTH: usize>(
     ensures { IfOk result (λ done. record { found = done.found.items; rest = done.rest.items; used = done.used }
         ≡ after_turns problem.now most_rows job.now turns) }
 {
-    let mut path: NumberPath<WIDTH> = NumberPath::new(alloc, problem, leads, numbers)?;
-    take_turns(alloc, &mut path, job, turns)
+    let _ = problem.stage();
+    let path: NumberPath<WIDTH> = NumberPath::new(alloc, problem, leads, numbers)?;
+    take_turns(alloc, path, job, turns)
 }
 
 // Turns on a job by a walk that asks the falseness table, if there is one, and else keeps the rows.
@@ -219,8 +220,9 @@ fn turns_by_walk(
     ensures { IfOk result (λ done. record { found = done.found.items; rest = done.rest.items; used = done.used }
         ≡ after_turns problem.now most_rows job.now turns) }
 {
-    let mut path = WalkPath::new(alloc, problem, leads, reach, table)?;
-    take_turns(alloc, &mut path, job, turns)
+    let _ = problem.stage();
+    let path = WalkPath::new(alloc, problem, leads, reach, table)?;
+    take_turns(alloc, path, job, turns)
 }
 
 // The finished work of these turns on a job.

@@ -28,14 +28,6 @@ pub fn parts_of(problem: &Problem) -> usize
     problem.query().parts.unsigned_abs() as usize
 }
 
-/// The number of steps.
-pub fn step_count(problem: &Problem) -> u8
-    ensures is { result ≡ length problem.now.leads }
-    ensures sound { IsSound problem.now }
-{
-    problem.leads().len() as u8
-}
-
 /// The steps as a node. Err where no memory is left.
 pub fn node_from(alloc: Global, problem: &Problem, steps: &[u8]) -> Result<Node, NoMemory>
     requires { IsValid problem.now steps.now }

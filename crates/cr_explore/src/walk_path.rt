@@ -1,6 +1,6 @@
 //! A path by a walk and a pruner.
 
-ghost use Rattle.std.specs.Prelude.{◌≡◌, [], IfOk, IfSome};
+ghost use Rattle.std.specs.Prelude.{◌≡◌, [], length, IfOk, IfSome};
 ghost use Rattle.cr_model.specs.Sizes.{most_rows};
 ghost use Rattle.cr_false.specs.Sets.{IsFalseTable};
 ghost use Rattle.cr_leads.specs.Tables.{lead_table};
@@ -21,29 +21,30 @@ use std::marker::Model;
 
 /// A path that rings the leads of its node.
 ///
-/// It is seen as the problem and the node.
+/// It is seen as the problem, the node and the step from which on the node's children are not tried yet.
 #[derive(Drop)]
 pub struct WalkPath<'a> {
     problem: &'a Problem,
     leads: &'a LeadTable,
     walk: Walk<'a>,
     pruner: Pruner<'a>,
+    next: u8,
 }
 
 impl<'a> Model for WalkPath<'a> {
-    ghost use Rattle.cr_prune.specs.Walks.{WalkParts};
+    ghost use Rattle.cr_path.specs.Walks.{WalkParts, walk_from};
     ghost use Rattle.cr_explore.specs.Searches.{IsWalkPath};
 
     ghost Value = { WalkParts };
 
-    ghost view = { λ w. w.walk };
+    ghost view = { λ w. walk_from w.walk.problem w.walk.node w.next };
 
-    ghost invariant = { λ w. IsWalkPath w.problem.now w.leads.now w.walk w.pruner };
+    ghost invariant = { λ w. IsWalkPath w.problem.now w.leads.now w.walk w.pruner w.next };
 }
 
 impl<'a> WalkPath<'a> {
-    /// The path at the node without steps, whose walk asks a falseness table, if there is one, and else keeps the rows.
-    /// Err where no memory is left.
+    /// The path at the node without steps, whose children are all tried. Its walk asks a falseness table, if there is
+    /// one, and else keeps the rows. Err where no memory is left.
     pub fn new(
         alloc: Global,
         problem: &'a Problem,
@@ -54,7 +55,7 @@ impl<'a> WalkPath<'a> {
         requires leads { leads.now ≡ lead_table problem.now }
         requires table { IfSome table (λ t. IsFalseTable leads.now t.now) }
         requires reach { reach.now ≡ reach_table problem.now most_rows }
-        ensures { IfOk result (λ path. path ≡ record { problem = problem.now; node = [] }) }
+        ensures { IfOk result (λ path. path ≡ record { problem = problem.now; node = []; next = length problem.now.leads }) }
     {
         let walk = Walk::new(alloc, problem, leads, table)?;
         let pruner = Pruner::new(leads, reach, problem);
@@ -63,6 +64,7 @@ impl<'a> WalkPath<'a> {
             leads,
             walk,
             pruner,
+            next: leads.count(),
         })
     }
 }
@@ -72,6 +74,8 @@ impl<'a> Path for WalkPath<'a> {
 
     ghost node_of = { λ w. w.node };
 
+    ghost next_of = { λ w. w.next };
+
     fn problem(&self) -> &Problem {
         self.problem
     }
@@ -80,22 +84,35 @@ impl<'a> Path for WalkPath<'a> {
         self.walk.steps()
     }
 
-    fn go_to(&mut self, steps: &[u8]) {
+    fn gone_to(self, steps: &[u8]) -> WalkPath<'a> {
         let _ = self.problem.stage();
-        go_to(&mut self.walk, steps);
+        let mut path = self;
+        go_to(&mut path.walk, steps);
+        path.next = 0;
+        path
     }
 
-    fn down(&mut self, from: u8) -> Option<u8> {
+    fn down(&mut self) -> Option<u8> {
         let _ = self.problem.stage();
         let count = self.leads.count();
-        go_down(&mut self.walk, &self.pruner, from, count)
+        let step = go_down(&mut self.walk, &self.pruner, self.next, count);
+        self.next = if step.is_none() { count } else { 0 };
+        step
     }
 
     fn up(&mut self) -> u8 {
-        go_up(&mut self.walk)
+        // A problem keeps all of its checks, so that there are few steps.
+        let _ = self.problem.stage();
+        let step = go_up(&mut self.walk);
+        self.next = step + 1;
+        step
     }
 
-    fn is_kept(&mut self, alloc: Global) -> Result<bool, NoMemory> {
+    fn pass(&mut self) {
+        self.next = self.leads.count();
+    }
+
+    fn is_kept(&self, alloc: Global) -> Result<bool, NoMemory> {
         a_test_decides_what_is_kept();
         is_touch_kept(alloc, self.problem, self.leads, &self.walk)
     }

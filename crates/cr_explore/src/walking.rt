@@ -60,11 +60,12 @@ fn lives(walk: &Walk, pruner: &Pruner) -> bool
     !pruner.dies_rung(walk)
 }
 
-/// Goes back, and gives the last step.
+/// Goes back, and gives the last step, which is one of the problem's.
 pub fn go_up(walk: &mut Walk) -> u8
     requires { 0 < length walk.old.node }
     ensures problem { walk.new.problem ≡ walk.old.problem }
     ensures node { walk.old.node ≡ child walk.new.node result }
+    ensures inside { result < length walk.old.problem.leads }
 {
     let steps = walk.steps();
     let step = steps[steps.len() - 1];

@@ -1,7 +1,8 @@
-ghost use Rattle.std.specs.Prelude.{◌≡◌, [], IfOk, IfSome};
+ghost use Rattle.std.specs.Prelude.{◌≡◌, [], length, IfOk, IfSome};
 ghost use Rattle.cr_false.specs.Sets.{IsFalseTable};
 ghost use Rattle.cr_leads.specs.Tables.{lead_table};
 ghost use Rattle.cr_model.specs.Sizes.{most_rows};
+ghost use Rattle.cr_model.specs.Sound.{IsSound};
 ghost use Rattle.cr_reach.specs.Tables.{reach_table};
 
 use cr_explore::{RowSearch, Search, WalkPath, make_search, take_turns};
@@ -272,10 +273,12 @@ fn walk(
     alloc: Global,
     told: &mut Told,
     draft: &Draft,
-    path: &mut WalkPath,
+    path: WalkPath,
     turns: u64,
 ) -> Result<(), Fail>
-    requires { path.old.node ≡ [] }
+    requires sound { IsSound path.problem }
+    requires node { path.node ≡ [] }
+    requires tried { path.next ≡ length path.problem.leads }
 {
     work_goes_on();
     let mut job = Vec::new(alloc);
@@ -299,8 +302,9 @@ fn walked(
     let mut told = none_told(alloc);
     let reach = reach_of(alloc, problem, leads)?;
     for number in turns {
-        let mut path = WalkPath::new(alloc, problem, leads, &reach, table)?;
-        walk(alloc, &mut told, draft, &mut path, *number)?;
+        let _ = problem.stage();
+        let path = WalkPath::new(alloc, problem, leads, &reach, table)?;
+        walk(alloc, &mut told, draft, path, *number)?;
     }
     Ok(told)
 }

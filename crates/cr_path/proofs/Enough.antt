@@ -17,7 +17,7 @@ use Rattle.cr_path.proofs.Places.{record_at, lead_is_told, told_at}
 
 -- what is read past the last end
 no_end : LeadEnd
-no_end = record { base = 0; rung = 0; uncut = 0; home = false }
+no_end = record { base = 0; rung = 0; left = 0; home = 0 }
 
 -- one of some rows stands among joined rows where it stands among the first or the later ones
 any_joined : (rows more others : List (List ℕ)) → list_any (is_listed (rows ++ more)) others ≡ (list_any (is_listed rows) others || list_any (is_listed more) others)
@@ -38,7 +38,7 @@ module _ (p : ProblemParts) (t : NumberParts) where
       ∙ ap₂ (λ a b. a || b) (one head step inside known) (two head step inside known)
       ∙ sym (any_joined rows more (map (row_at t) (numbers_of t (head * t.steps + step))))
 
-  module _ (numbered : IsNumbered p t) (node : List ℕ) (ends : List LeadEnd) (at : AreEnds p t node ends) (valid : IsValid p node) where
+  module _ (numbered : IsNumbered p t) (node : List ℕ) (next : ℕ) (ends : List LeadEnd) (at : AreEnds p t node next ends) (valid : IsValid p node) where
     -- the rows of one lead more
     told_more : (n : ℕ) → n < length node → IsTold p t (rows_of p (take n node)) → IsTold p t (rows_of p (take (n + 1) node))
     told_more n inside told =

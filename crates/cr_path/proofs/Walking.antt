@@ -1,7 +1,7 @@
 -- What a numbered walk keeps, a step on and a step back.
-use Rattle.std.proofs.Common.{◌≡◌, ℕ, zero, suc, ◌+◌, ◌-◌, ◌<◌, ◌≤◌, Bool, true, false, List, [], ◌∷◌, length, get_or, take, sym, ap, ◌∙◌, subst, inl, inr, refl, arith, All}
+use Rattle.std.proofs.Common.{◌≡◌, ℕ, zero, suc, ◌+◌, ◌-◌, ◌<◌, ◌≤◌, Bool, true, false, List, [], ◌∷◌, length, get_or, take, sym, ap, ◌∙◌, subst, inl, inr, refl, nat_eq, arith, All}
 use Rattle.std.specs.Prelude.{replicate}
-use Rattle.std.proofs.lemmas.Bool.{cases_Bool, cases_eq, false≢true}
+use Rattle.std.proofs.lemmas.Bool.{cases_Bool, cases_eq}
 use Rattle.std.proofs.lemmas.List.{length_push, get_or_push, length-replicate, get_or-replicate}
 use Rattle.cr_model.specs.Problems.{ProblemParts}
 use Rattle.cr_model.specs.Callings.{rows_of, head_of}
@@ -18,11 +18,15 @@ use Rattle.cr_path.specs.Counted.{IsCounted}
 use Rattle.cr_path.specs.Ends.{IsEnd, AreEnds}
 use Rattle.cr_path.specs.Marks.{MarksParts, AreSet, AreMarked}
 use Rattle.cr_path.specs.Numbers.{NumberParts, numbers_of, comes_home, IsBase, IsRecord, IsNumbered}
+use Rattle.cr_path.specs.Sets.{AreUncut}
 use Rattle.cr_path.specs.Walks.{IsWalk, parent}
+use mir.Val.{bool_byte}
 use Rattle.cr_path.proofs.Children.{child_head, child_length, part_few, few_leads, valid_first, last_step}
 use Rattle.cr_path.proofs.Marking.{within_in, marked_more, marked_less, marked_same, marked_stays}
 use Rattle.cr_path.proofs.Places.{record_at, root_base}
 use Rattle.cr_path.proofs.Homes.{root_home}
+use Rattle.cr_path.proofs.StepSets.{none_of_zero}
+use Rattle.cr_path.proofs.Uncut.{none_left}
 
 -- what is read past the last record
 pub no_record : LeadRecord
@@ -30,20 +34,19 @@ no_record = record { next = 0; limit = 0; length = 0; home = false }
 
 -- before any lead
 abbrev pub root_end : LeadEnd
-root_end = record { base = 0; rung = 0; uncut = 0; home = true }
+root_end = record { base = 0; rung = 0; left = 0; home = 1 }
 
 root_ends : (p : ProblemParts) (t : NumberParts) → IsNumbered p t → (i : ℕ) (d : LeadEnd) → i ≤ 0 → IsEnd p t (take i []) (get_or (root_end ∷ []) i d)
 root_ends p t numbered zero d within = record {
   from = root_base p t numbered;
   long = refl;
-  uncut = record { found = λ known_now. absurd (false≢true known_now) };
   home = root_home p;
 }
 root_ends p t numbered (suc i) d within = absurd (omega (arith, within))
 
 pub root_walk : (p : ProblemParts) (leads : TableParts) (t : NumberParts) (counting : Counting) (free : Bool) → IsSound p → leads ≡ lead_table p → IsNumbered p t
-    → IsCounted p [] counting → free ≡ turn_free p.query → IsWalk p leads t [] (root_end ∷ []) (replicate (length t.rows) false) 0 counting free
-root_walk p leads t counting free sound table numbered counted free_is = record {
+    → IsCounted p [] counting → free ≡ turn_free p.query → (next : ℕ) → next ≡ length p.leads → IsWalk p leads t [] next (root_end ∷ []) (replicate (length t.rows) false) 0 counting free
+root_walk p leads t counting free sound table numbered counted free_is next all = record {
   sound = sound;
   table = table;
   numbered = numbered;
@@ -51,7 +54,13 @@ root_walk p leads t counting free sound table numbered counted free_is = record 
     steps = λ i d low. absurd (omega (arith, low));
     short = omega arith;
   };
-  ends = record { number = refl; each = root_ends p t numbered };
+  tried = omega (arith, all);
+  ends = record {
+    number = refl;
+    each = root_ends p t numbered;
+    tried = λ i d low. absurd (omega (arith, low));
+    left = λ d. subst (λ n. AreUncut p [] n 0) (sym all) (none_left p [] 0 (none_of_zero 0 refl));
+  };
   marked = record {
     within = omega arith;
     counted = length-replicate (length t.rows) false;
@@ -63,14 +72,18 @@ root_walk p leads t counting free sound table numbered counted free_is = record 
   free = free_is;
 }
 
+-- a number that tells a bool
+one_of : (b : Bool) → nat_eq (bool_byte b) 1 ≡ b
+one_of true = refl
+one_of false = refl
+
 -- the end of one lead more
-pub next_end : (p : ProblemParts) (t : NumberParts) (node : List ℕ) (step : ℕ) (end : LeadEnd) (lead : LeadRecord) → IsEnd p t node end → IsRecord p t (head_of p node) step (end.base + step) lead
-    → IsEnd p t (child node step) (record { base = lead.next; rung = end.rung + lead.length; uncut = 0; home = lead.home })
-next_end p t node step end lead at_end known = record {
+pub next_end : (p : ProblemParts) (t : NumberParts) (node : List ℕ) (step : ℕ) (end : LeadEnd) (lead : LeadRecord) (left home : ℕ) → IsEnd p t node end → IsRecord p t (head_of p node) step (end.base + step) lead
+    → home ≡ bool_byte lead.home → IsEnd p t (child node step) (record { base = lead.next; rung = end.rung + lead.length; left = left; home = home })
+next_end p t node step end lead left home at_end known home_is = record {
   from = subst (λ (row : List ℕ). IsBase t row lead.next) (sym (child_head p node step)) known.next;
   long = omega (arith, at_end.long, known.long, child_length p node step);
-  uncut = record { found = λ known_now. absurd (false≢true known_now) };
-  home = known.home ∙ ap (comes_home p) (sym (child_head p node step));
+  home = ap (λ n. nat_eq n 1) home_is ∙ one_of lead.home ∙ known.home ∙ ap (comes_home p) (sym (child_head p node step));
 }
 
 -- its length fits
@@ -85,7 +98,7 @@ step_known p node step valid =
     let at_end : get_or (child node step) (length node) 0 ≡ step = get_or_push node step 0 (length node) refl in
     subst (λ (s : ℕ). s < length p.leads) at_end (valid.steps (length node) 0 (omega (arith, length_push node step)))
 
-module _ (p : ProblemParts) (leads : TableParts) (t : NumberParts) (node : List ℕ) (ends : List LeadEnd) (marks : List Bool) (fresh : ℕ) (counting : Counting) (free : Bool) (is : IsWalk p leads t node ends marks fresh counting free) where
+module _ (p : ProblemParts) (leads : TableParts) (t : NumberParts) (node : List ℕ) (next : ℕ) (ends : List LeadEnd) (marks : List Bool) (fresh : ℕ) (counting : Counting) (free : Bool) (is : IsWalk p leads t node next ends marks fresh counting free) where
   -- the table knows a step
   pub step_tabled : (step : ℕ) → step < length p.leads → step < t.steps
   step_tabled step inside = omega (arith, is.numbered.counted, inside)
@@ -133,14 +146,15 @@ module _ (p : ProblemParts) (leads : TableParts) (t : NumberParts) (node : List 
       ]
 
   -- a step on
-  pub walked : (step : ℕ) (ends' : List LeadEnd) (marks' : List Bool) (fresh' : ℕ) (counting' : Counting) → IsValid p (child node step) →
-      AreEnds p t (child node step) ends' → AreMarked p t (child node step) marks' fresh' → IsCounted p (child node step) counting' →
-      IsWalk p leads t (child node step) ends' marks' fresh' counting' free
-  walked step ends' marks' fresh' counting' valid at_ends marked counted = record {
+  pub walked : (step next' : ℕ) (ends' : List LeadEnd) (marks' : List Bool) (fresh' : ℕ) (counting' : Counting) → IsValid p (child node step) → next' ≤ length p.leads →
+      AreEnds p t (child node step) next' ends' → AreMarked p t (child node step) marks' fresh' → IsCounted p (child node step) counting' →
+      IsWalk p leads t (child node step) next' ends' marks' fresh' counting' free
+  walked step next' ends' marks' fresh' counting' valid tried at_ends marked counted = record {
     sound = is.sound;
     table = is.table;
     numbered = is.numbered;
     valid = valid;
+    tried = tried;
     ends = at_ends;
     marked = marked;
     counted = counted;
@@ -148,12 +162,13 @@ module _ (p : ProblemParts) (leads : TableParts) (t : NumberParts) (node : List 
   }
 
   -- at the same node
-  pub stayed : (ends' : List LeadEnd) → AreEnds p t node ends' → IsWalk p leads t node ends' marks fresh counting free
-  stayed ends' at_ends = record {
+  pub stayed : (next' : ℕ) (ends' : List LeadEnd) → next' ≤ length p.leads → AreEnds p t node next' ends' → IsWalk p leads t node next' ends' marks fresh counting free
+  stayed next' ends' tried at_ends = record {
     sound = is.sound;
     table = is.table;
     numbered = is.numbered;
     valid = is.valid;
+    tried = tried;
     ends = at_ends;
     marked = is.marked;
     counted = is.counted;
@@ -161,14 +176,15 @@ module _ (p : ProblemParts) (leads : TableParts) (t : NumberParts) (node : List 
   }
 
   -- a step back
-  pub returned : (ends' : List LeadEnd) (marks' : List Bool) (fresh' : ℕ) (counting' : Counting) →
-      AreEnds p t (parent node) ends' → AreMarked p t (parent node) marks' fresh' → IsCounted p (parent node) counting' →
-      IsWalk p leads t (parent node) ends' marks' fresh' counting' free
-  returned ends' marks' fresh' counting' at_ends marked counted = record {
+  pub returned : (next' : ℕ) (ends' : List LeadEnd) (marks' : List Bool) (fresh' : ℕ) (counting' : Counting) → next' ≤ length p.leads →
+      AreEnds p t (parent node) next' ends' → AreMarked p t (parent node) marks' fresh' → IsCounted p (parent node) counting' →
+      IsWalk p leads t (parent node) next' ends' marks' fresh' counting' free
+  returned next' ends' marks' fresh' counting' tried at_ends marked counted = record {
     sound = is.sound;
     table = is.table;
     numbered = is.numbered;
     valid = valid_first p node (length node - 1) is.valid;
+    tried = tried;
     ends = at_ends;
     marked = marked;
     counted = counted;

@@ -1,9 +1,11 @@
 -- What is counted of a node, where the query asks for it.
-use Rattle.std.specs.Prelude.{◌≡◌, ℕ, ◌+◌, ◌<◌, not, nat_eq, List, [], length, Option, Some, None}
+use Rattle.std.specs.Prelude.{◌≡◌, ℕ, ◌+◌, ◌<◌, ◌≤◌, not, nat_eq, List, [], length, Option, Some, None, IfSome}
 use Rattle.cr_model.specs.Problems.{ProblemParts, QueryParts}
 use Rattle.cr_model.specs.Callings.{head_of}
 use Rattle.cr_model.specs.Sound.{IsSound}
-use Rattle.cr_query.specs.Meters.{MeterParts, meter_from}
+use Rattle.cr_model.specs.Sizes.{child}
+use Rattle.cr_query.specs.Meters.{MeterParts, meter_from, is_hopeless_by_leads}
+use Rattle.cr_query.specs.Sets.{has_step}
 use Rattle.cr_path.specs.Numbers.{NumberParts, IsBase, IsNumbered}
 use Rattle.cr_path.specs.declared.counting.Counting.{Counting}
 
@@ -19,9 +21,15 @@ abbrev pub IsMeterOf : ProblemParts → List ℕ → Option MeterParts → Type 
 IsMeterOf p node None = AsksNothing p.query
 IsMeterOf p node (Some meter) = meter ≡ meter_from p node
 
+-- the steps with which a node has too many or too few leads
+pub record AreHopeless (p : ProblemParts) (node : List ℕ) (steps : ℕ) : Type 0 where
+  pub few : length p.leads ≤ 24
+  pub each : (step : ℕ) → step < length p.leads → has_step steps step ≡ is_hopeless_by_leads p (child node step)
+
 pub record IsCounted (p : ProblemParts) (node : List ℕ) (counting : Counting) : Type 0 where
   pub meter : IsMeterOf p node counting.meter
   pub patterns : counting.patterns ≡ not (nat_eq (length p.query.patterns) 0)
+  pub hopeless : IfSome counting.hopeless (AreHopeless p node)
 
 -- a meter can be told of the lead at a place, which is that of a step after a node
 pub record CanCount (t : NumberParts) (place step : ℕ) (node : List ℕ) (meter : MeterParts) : Type 0 where

@@ -1,19 +1,24 @@
 -- Where the leads of a node end, by numbers.
-use Rattle.std.specs.Prelude.{◌≡◌, ℕ, ◌+◌, ◌≤◌, List, length, get_or, take}
+use Rattle.std.specs.Prelude.{◌≡◌, ℕ, nat_eq, ◌+◌, ◌-◌, ◌<◌, ◌≤◌, List, length, get_or, take}
 use Rattle.cr_model.specs.Problems.{ProblemParts}
 use Rattle.cr_model.specs.Callings.{length_of, head_of}
 use Rattle.cr_path.specs.Numbers.{NumberParts, IsBase, comes_home}
-use Rattle.cr_path.specs.Sets.{AreFound}
+use Rattle.cr_path.specs.Sets.{AreUncut}
 use Rattle.cr_path.specs.declared.ends.LeadEnd.{LeadEnd}
 
--- the end of a calling: where the records of its head start, how many changes lead there, the steps by which its children are not cut, once they are known, and whether its head comes home
+-- the last step of a node
+abbrev pub last_of : List ℕ → ℕ
+last_of node = get_or node (length node - 1) 0
+
+-- the end of a calling: where the records of its head start, how many changes lead there, and whether its head comes home
 pub record IsEnd (p : ProblemParts) (t : NumberParts) (calling : List ℕ) (end : LeadEnd) : Type 0 where
   pub from : IsBase t (head_of p calling) end.base
   pub long : end.rung ≡ length_of p calling
-  pub uncut : AreFound p calling end.uncut
-  pub home : end.home ≡ comes_home p (head_of p calling)
+  pub home : nat_eq end.home 1 ≡ comes_home p (head_of p calling)
 
--- the ends of a node's leads, from the first on, and before them the end of no lead
-pub record AreEnds (p : ProblemParts) (t : NumberParts) (node : List ℕ) (ends : List LeadEnd) : Type 0 where
+-- the ends of a node's leads, from the first on, and before them the end of no lead: of each front of the node the children are left by the steps after the one that the node takes there, and of the node itself those from the next one on
+pub record AreEnds (p : ProblemParts) (t : NumberParts) (node : List ℕ) (next : ℕ) (ends : List LeadEnd) : Type 0 where
   pub number : length ends ≡ length node + 1
   pub each : (i : ℕ) (d : LeadEnd) → i ≤ length node → IsEnd p t (take i node) (get_or ends i d)
+  pub tried : (i : ℕ) (d : LeadEnd) → i < length node → AreUncut p (take i node) (get_or node i 0 + 1) (get_or ends i d).left
+  pub left : (d : LeadEnd) → AreUncut p node next (get_or ends (length node) d).left

@@ -10,20 +10,19 @@ use Rattle.cr_path.specs.Living.{is_cut}
 abbrev pub has_step : ℕ → ℕ → Bool
 has_step set step = nat_eq (bit_at set step) 1
 
--- a bit above all steps tells whether a set is known
-abbrev pub is_known : ℕ → Bool
-is_known set = has_step set 31
+-- the step is the least one of the set
+pub record IsLeast (set step : ℕ) : Type 0 where
+  pub few : step < 32
+  pub is : has_step set step ≡ true
+  pub before : (other : ℕ) → other < step → has_step set other ≡ false
 
--- the set has the steps by which the children of a node are not cut
-pub record AreUncut (p : ProblemParts) (node : List ℕ) (set : ℕ) : Type 0 where
-  pub each : (step : ℕ) → step < length p.leads → has_step set step ≡ not (is_cut p most_rows (child node step))
+-- the set has the steps from one on by which the children of a node are not cut, and no others
+pub record AreUncut (p : ProblemParts) (node : List ℕ) (next set : ℕ) : Type 0 where
+  pub before : (step : ℕ) → step < next → step < 32 → has_step set step ≡ false
+  pub each : (step : ℕ) → next ≤ step → step < length p.leads → has_step set step ≡ not (is_cut p most_rows (child node step))
+  pub beyond : (step : ℕ) → length p.leads ≤ step → step < 32 → has_step set step ≡ false
 
--- it has them once it is known
-pub record AreFound (p : ProblemParts) (node : List ℕ) (set : ℕ) : Type 0 where
-  pub found : is_known set ≡ true → AreUncut p node set
-
--- a known set that is found so far has the right ones of the steps below one by which no child turns back, and none of the steps from that one on
+-- a set that is found so far has the right ones of the steps below one by which no child turns back, and none of the steps from that one on
 pub record AreSeen (p : ProblemParts) (node : List ℕ) (end set : ℕ) : Type 0 where
-  pub known : is_known set ≡ true
   pub seen : (step : ℕ) → step < end → is_turned_back p (child node step) ≡ false → has_step set step ≡ not (is_cut p most_rows (child node step))
-  pub free : (step : ℕ) → end ≤ step → step < 31 → has_step set step ≡ false
+  pub free : (step : ℕ) → end ≤ step → step < 32 → has_step set step ≡ false

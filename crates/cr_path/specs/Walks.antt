@@ -1,5 +1,5 @@
 -- Numbered walks, as contracts see them, and what their fields keep.
-use Rattle.std.specs.Prelude.{◌≡◌, ℕ, ◌+◌, ◌-◌, Bool, List, length, take}
+use Rattle.std.specs.Prelude.{◌≡◌, ℕ, ◌+◌, ◌-◌, ◌≤◌, Bool, List, length, take}
 use Rattle.cr_model.specs.Limits.{most_lead_changes}
 use Rattle.cr_model.specs.Problems.{ProblemParts}
 use Rattle.cr_model.specs.Queries.{part_cap}
@@ -14,22 +14,24 @@ use Rattle.cr_path.specs.Counted.{IsCounted}
 use Rattle.cr_path.specs.declared.ends.LeadEnd.{LeadEnd}
 use Rattle.cr_path.specs.declared.counting.Counting.{Counting}
 
--- the problem and the node
+-- the problem, the node, and the step from which on the node's children are not tried yet
 pub record WalkParts : Type 0 where
   pub problem : ProblemParts
   pub node : List ℕ
+  pub next : ℕ
 
-abbrev pub walk_from : ProblemParts → List ℕ → WalkParts
-walk_from p node = record { problem = p; node = node }
+abbrev pub walk_from : ProblemParts → List ℕ → ℕ → WalkParts
+walk_from p node next = record { problem = p; node = node; next = next }
 
 -- the same with the numbers
 pub record PathParts : Type 0 where
   pub problem : ProblemParts
   pub numbers : NumberParts
   pub node : List ℕ
+  pub next : ℕ
 
-abbrev pub path_from : ProblemParts → NumberParts → List ℕ → PathParts
-path_from p t node = record { problem = p; numbers = t; node = node }
+abbrev pub path_from : ProblemParts → NumberParts → List ℕ → ℕ → PathParts
+path_from p t node next = record { problem = p; numbers = t; node = node; next = next }
 
 -- the node without its last step
 abbrev pub parent : List ℕ → List ℕ
@@ -39,13 +41,14 @@ parent node = take (length node - 1) node
 abbrev pub room_of : ProblemParts → ℕ
 room_of p = part_cap p + most_lead_changes
 
--- what the fields keep: each is told by the problem and the node
-pub record IsWalk (p : ProblemParts) (leads : TableParts) (t : NumberParts) (node : List ℕ) (places : List LeadEnd) (marks : List Bool) (fresh : ℕ) (counting : Counting) (turn_free_now : Bool) : Type 0 where
+-- what the fields keep: each is told by the problem, the node and the next step
+pub record IsWalk (p : ProblemParts) (leads : TableParts) (t : NumberParts) (node : List ℕ) (next : ℕ) (places : List LeadEnd) (marks : List Bool) (fresh : ℕ) (counting : Counting) (turn_free_now : Bool) : Type 0 where
   pub sound : IsSound p
   pub table : leads ≡ lead_table p
   pub numbered : IsNumbered p t
   pub valid : IsValid p node
-  pub ends : AreEnds p t node places
+  pub tried : next ≤ length p.leads
+  pub ends : AreEnds p t node next places
   pub marked : AreMarked p t node marks fresh
   pub counted : IsCounted p node counting
   pub free : turn_free_now ≡ turn_free p.query

@@ -6,9 +6,11 @@ ghost use Rattle.cr_model.specs.Problems.{ProblemParts};
 ghost use Rattle.cr_model.specs.Sizes.{child};
 ghost use Rattle.cr_query.specs.Meeting.{MeetsCounts, MeetsMethodCounts};
 ghost use Rattle.cr_query.specs.Meters.{parent, meter_from, is_hopeless_by_leads};
-ghost use Rattle.cr_path.specs.Counted.{AsksNothing, IsCounted, CanCount};
+ghost use Rattle.cr_path.specs.Counted.{AsksNothing, IsCounted, AreHopeless, CanCount};
 ghost use Rattle.cr_path.specs.Living.{is_hopeless};
+ghost use Rattle.cr_path.specs.Sets.{has_step};
 
+use crate::fits::Fits;
 use crate::table::NumberTable;
 use cr_model::{Problem, Query};
 use cr_query::Meter;
@@ -22,6 +24,10 @@ pub struct Counting {
     pub meter: Option<Meter>,
     // Whether there are patterns.
     pub patterns: bool,
+    // The steps with which the node has too many or too few leads, a bit for each, where the last move went on.
+    pub hopeless: Option<u32>,
+    // How many rows of the lead that is told fit each pattern.
+    pub fits: Fits,
 }
 
 impl Counting {
@@ -35,12 +41,16 @@ impl Counting {
             return Ok(Counting {
                 meter: None,
                 patterns,
+                hopeless: None,
+                fits: Fits::none(),
             });
         }
         let meter = Meter::new(alloc, problem)?;
         Ok(Counting {
             meter: Some(meter),
             patterns,
+            hopeless: None,
+            fits: Fits::none(),
         })
     }
 
@@ -52,7 +62,7 @@ impl Counting {
         ensures { (p : ProblemParts) (node : List ℕ) → IsCounted p node self.old → IsCounted p (child node step) self.new }
     {
         if let Some(meter) = &mut self.meter {
-            count_lead(meter, numbers, place, step);
+            self.hopeless = Some(count_lead(meter, &mut self.fits, numbers, place, step));
         }
     }
 
@@ -64,7 +74,8 @@ impl Counting {
         ensures { (p : ProblemParts) (node : List ℕ) → IsCounted p node self.old → IsCounted p (parent node) self.new }
     {
         if let Some(meter) = &mut self.meter {
-            take_back_lead(meter, numbers, place, step);
+            take_back_lead(meter, &mut self.fits, numbers, place, step);
+            self.hopeless = None;
         }
     }
 
@@ -75,7 +86,10 @@ impl Counting {
         ensures { (p : ProblemParts) (node : List ℕ) → IsCounted p node self.now → result ≡ is_hopeless_by_leads p (child node step) }
     {
         match &self.meter {
-            Some(meter) => is_hopeless_by_leads(meter, step),
+            Some(meter) => match self.hopeless {
+                Some(steps) => has_step(steps, step),
+                None => is_hopeless_by_leads(meter, step),
+            },
             None => false,
         }
     }
@@ -96,6 +110,7 @@ impl Counting {
     }
 
     /// Whether the node's touch meets each count of marks and of methods.
+    #[inline(always)]
     pub fn meets_counts(&self) -> bool
         ensures { (p : ProblemParts) (node : List ℕ) → IsCounted p node self.now
             → IsTrue result ↔ (MeetsCounts p (touch_of p node) × MeetsMethodCounts p (touch_of p node)) }
@@ -110,24 +125,35 @@ impl Counting {
 // What a meter does stays a call in these four, so that going on, going back and judging children are short where
 // nothing is counted.
 
-// Tells a meter of a step more, whose lead is the one at this place.
+// Tells a meter of a step more, whose lead is the one at this place, and gives the steps with which the node after it
+// has too many or too few leads.
 #[inline(never)]
-fn count_lead(meter: &mut Meter, numbers: &NumberTable, place: usize, step: u8)
+fn count_lead(
+    meter: &mut Meter,
+    fits: &mut Fits,
+    numbers: &NumberTable,
+    place: usize,
+    step: u8,
+) -> u32
     requires few { length meter.old.node < 1024 }
     requires lead { CanCount numbers.now place step meter.old.node meter.old }
-    ensures { meter.new ≡ meter_from meter.old.problem (child meter.old.node step) }
+    ensures meter { meter.new ≡ meter_from meter.old.problem (child meter.old.node step) }
+    ensures steps { AreHopeless meter.new.problem meter.new.node result }
 {
-    meter.add_counted(step, numbers.fits_at(place).numbers());
+    numbers.take_fits(place, fits);
+    meter.add_counted(step, fits.numbers());
+    meter.hopeless_steps()
 }
 
 // Takes the last step of a meter back, which is this one and whose lead is the one at this place.
 #[inline(never)]
-fn take_back_lead(meter: &mut Meter, numbers: &NumberTable, place: usize, step: u8)
+fn take_back_lead(meter: &mut Meter, fits: &mut Fits, numbers: &NumberTable, place: usize, step: u8)
     requires last { meter.old.node ≡ child (parent meter.old.node) step }
     requires lead { CanCount numbers.now place step (parent meter.old.node) meter.old }
     ensures { meter.new ≡ meter_from meter.old.problem (parent meter.old.node) }
 {
-    meter.take_back_counted(step, numbers.fits_at(place).numbers());
+    numbers.take_fits(place, fits);
+    meter.take_back_counted(step, fits.numbers());
 }
 
 // Whether the node of a meter with this step more has too many or too few leads.
@@ -142,9 +168,9 @@ fn is_hopeless_by_leads(meter: &Meter, step: u8) -> bool
 // Whether the node of a meter has too many or too few leads, or rows that fit a pattern.
 #[inline(never)]
 fn is_hopeless_now(meter: &Meter) -> bool
-    ensures { result ≡ is_hopeless meter.now.problem meter.now.node }
+    ensures { is_hopeless_by_leads meter.now.problem meter.now.node ≡ false → result ≡ is_hopeless meter.now.problem meter.now.node }
 {
-    meter.hopeless().is_some()
+    meter.is_hopeless_by_rows()
 }
 
 // Whether the query has no counts, no patterns and no limits on changes of method.
@@ -162,4 +188,12 @@ fn has_patterns(query: &Query) -> bool
     ensures { result ≡ not (nat_eq (length query.now.patterns) 0) }
 {
     !query.patterns.is_empty()
+}
+
+// Whether a set has a step.
+#[inline(always)]
+fn has_step(set: u32, step: u8) -> bool
+    ensures { step < 32 → result ≡ has_step set step }
+{
+    (set >> (step & 31)) & 1 == 1
 }

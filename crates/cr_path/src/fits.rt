@@ -1,6 +1,6 @@
 //! How many rows of one lead fit each pattern.
 
-ghost use Rattle.std.specs.Prelude.{◌≡◌, ◌≤◌, length, get_or, map};
+ghost use Rattle.std.specs.Prelude.{◌≡◌, ◌≤◌, [], length, get_or, map};
 ghost use Rattle.cr_model.specs.Limits.{most_patterns};
 
 use crate::fittings::Fitting;
@@ -27,19 +27,27 @@ impl Model for Fits {
 }
 
 impl Fits {
-    /// Those of the lead at a place.
-    pub fn at(fittings: &[Fitting], place: usize) -> Fits
-        requires { length fittings.now ≤ most_patterns }
-        ensures { result ≡ map (λ fitting. get_or fitting place 0) fittings.now }
+    /// Those of no patterns.
+    pub fn none() -> Fits
+        ensures { result ≡ [] }
     {
-        let mut numbers = [0; MOST_PATTERNS];
-        for index in 0..fittings.len() {
-            numbers[index] = fittings[index].at(place) as u8;
-        }
         Fits {
-            numbers,
-            count: fittings.len(),
+            numbers: [0; MOST_PATTERNS],
+            count: 0,
         }
+    }
+
+    /// Takes those of the lead at a place. They are written where they are read, since a copy of them would have to wait
+    /// for each of them.
+    #[inline(always)]
+    pub fn take(&mut self, fittings: &[Fitting], place: usize)
+        requires { length fittings.now ≤ most_patterns }
+        ensures { self.new ≡ map (λ fitting. get_or fitting place 0) fittings.now }
+    {
+        for index in 0..fittings.len() {
+            self.numbers[index] = fittings[index].at(place) as u8;
+        }
+        self.count = fittings.len();
     }
 
     /// The numbers.

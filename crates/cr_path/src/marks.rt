@@ -41,6 +41,14 @@ impl Marks {
         self.fresh
     }
 
+    /// The marks.
+    #[inline(always)]
+    pub fn marks(&self) -> &[bool]
+        ensures { result.now ≡ self.now.marks }
+    {
+        &self.marks
+    }
+
     /// Whether the first row is marked.
     #[inline(always)]
     pub fn has_first(&self) -> bool
@@ -90,9 +98,9 @@ impl Marks {
     }
 }
 
-// Whether one of the numbers is marked. All of them are looked at, which takes less time than to leave early.
+/// Whether one of the numbers is marked. All of them are looked at, which takes less time than to leave early.
 #[inline(always)]
-fn some_marked(marks: &[bool], numbers: &[u32]) -> bool
+pub fn some_marked(marks: &[bool], numbers: &[u32]) -> bool
     requires { All (λ number. number < length marks.now) numbers.now }
     ensures { result ≡ some_marked marks.now numbers.now }
 {

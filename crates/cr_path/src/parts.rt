@@ -10,7 +10,7 @@ ghost use Rattle.cr_path.specs.Marks.{AreOf};
 ghost use Rattle.cr_path.specs.Numbers.{IsNumbered, IsTold};
 ghost use Rattle.cr_path.specs.Parts.{IsHead, HasHead, Passes};
 
-use crate::marks::Marks;
+use crate::marks::some_marked;
 use crate::table::NumberTable;
 use cr_model::Problem;
 
@@ -28,7 +28,7 @@ pub fn parts_to_try(problem: &Problem) -> usize
 pub fn bring_new_rows<const WIDTH: usize>(
     problem: &Problem,
     numbers: &NumberTable,
-    marks: &Marks,
+    marks: &[bool],
     node: &[u8],
     base: u32,
     parts: usize,
@@ -36,9 +36,9 @@ pub fn bring_new_rows<const WIDTH: usize>(
     requires numbered { IsNumbered problem.now numbers.now }
     requires width { numbers.now.width ≡ WIDTH }
     requires steps { HasSteps problem.now node.now }
-    requires counted { length marks.now.marks ≡ length numbers.now.rows }
+    requires counted { length marks.now ≡ length numbers.now.rows }
     requires head { HasHead problem.now numbers.now base }
-    ensures { (from : List ℕ) (rows : List (List ℕ)) → IsHead problem.now numbers.now from base → IsTold problem.now numbers.now rows → AreOf numbers.now rows marks.now.marks
+    ensures { (from : List ℕ) (rows : List (List ℕ)) → IsHead problem.now numbers.now from base → IsTold problem.now numbers.now rows → AreOf numbers.now rows marks.now
         → result ≡ not (list_any (is_listed rows) (rows_from from (changes_of_all problem.now (repeated parts node.now)))) }
 {
     let mut base = base;
@@ -55,23 +55,23 @@ pub fn bring_new_rows<const WIDTH: usize>(
 fn pass_part<const WIDTH: usize>(
     problem: &Problem,
     numbers: &NumberTable,
-    marks: &Marks,
+    marks: &[bool],
     node: &[u8],
     from: u32,
 ) -> Option<u32>
     requires numbered { IsNumbered problem.now numbers.now }
     requires width { numbers.now.width ≡ WIDTH }
     requires steps { HasSteps problem.now node.now }
-    requires counted { length marks.now.marks ≡ length numbers.now.rows }
+    requires counted { length marks.now ≡ length numbers.now.rows }
     requires from { HasHead problem.now numbers.now from }
     ensures head { IfSome result (λ base. HasHead problem.now numbers.now base) }
-    ensures passes { (row : List ℕ) (rows : List (List ℕ)) → IsHead problem.now numbers.now row from → IsTold problem.now numbers.now rows → AreOf numbers.now rows marks.now.marks
+    ensures passes { (row : List ℕ) (rows : List (List ℕ)) → IsHead problem.now numbers.now row from → IsTold problem.now numbers.now rows → AreOf numbers.now rows marks.now
         → Passes problem.now numbers.now rows row (changes_of_all problem.now node.now) result }
 {
     let mut base = from;
     for step in node {
         let place = numbers.place(base, *step);
-        if marks.has_some(numbers.numbers_at::<WIDTH>(place)) {
+        if some_marked(marks, numbers.numbers_at::<WIDTH>(place)) {
             return None;
         }
         base = numbers.lead_at(place).next;

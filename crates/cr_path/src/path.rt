@@ -13,18 +13,18 @@ ghost use Rattle.cr_model.specs.Turning.{IsLeastRotation};
 ghost use Rattle.cr_leads.specs.Tables.{lead_table};
 ghost use Rattle.cr_query.specs.Meeting.{MeetsCounts, MeetsMethodCounts};
 ghost use Rattle.cr_query.specs.Meters.{is_hopeless_by_leads};
-ghost use Rattle.cr_path.specs.Ends.{IsEnd};
-ghost use Rattle.cr_path.specs.Living.{is_clean, is_cut, is_hopeless, is_live, IsFirstUncut};
+ghost use Rattle.cr_path.specs.Ends.{last_of, IsEnd};
+ghost use Rattle.cr_path.specs.Living.{is_clean, is_cut, is_hopeless, is_live, IsFirst, IsFirstUncut};
 ghost use Rattle.cr_path.specs.Marks.{IsLead};
 ghost use Rattle.cr_path.specs.Numbers.{numbers_of, IsNumbered};
-ghost use Rattle.cr_path.specs.Sets.{is_known, AreUncut};
+ghost use Rattle.cr_path.specs.Sets.{AreUncut};
 ghost use Rattle.cr_path.specs.Walks.{path_from, parent, room_of};
 
 use crate::counting::Counting;
 use crate::ends::{Ends, LeadEnd};
 use crate::marks::Marks;
 use crate::parts::{bring_new_rows, parts_to_try};
-use crate::sets::{is_known, least_from, no_steps, with_step, without_below};
+use crate::sets::{least, no_steps, with_step, without_below, without_step};
 use crate::table::{LeadRecord, NumberTable};
 use cr_leads::LeadTable;
 use cr_model::Problem;
@@ -37,7 +37,7 @@ use std::marker::Model;
 
 /// The node of a walk, with what is known of it.
 ///
-/// It is seen as the problem, the numbers and the node.
+/// It is seen as the problem, the numbers, the node and the step from which on the node's children are not tried yet.
 #[derive(Drop)]
 pub struct Path<'a, const WIDTH: usize> {
     problem: &'a Problem,
@@ -45,10 +45,14 @@ pub struct Path<'a, const WIDTH: usize> {
     numbers: &'a NumberTable,
     // The node.
     steps: Period,
+    // The step from which on its children are not tried yet.
+    next: u8,
+    // Where its leads end, and of each of its fronts which children are left.
     ends: Ends,
     // The telling rows of the first leads, of as many as bring no row again.
     marks: Marks,
-    counting: Counting,
+    // On its own, so that what is lent to a meter's calls is no part of the path.
+    counting: Box<Counting>,
     // Whether all rotations of a calling meet the query, or none.
     turn_free: bool,
 }
@@ -59,13 +63,14 @@ impl<'a, const WIDTH: usize> Model for Path<'a, WIDTH> {
 
     ghost Value = { PathParts };
 
-    ghost view = { λ w. path_from w.problem.now w.numbers.now w.steps };
+    ghost view = { λ w. path_from w.problem.now w.numbers.now w.steps w.next };
 
-    ghost invariant = { λ w. IsWalk w.problem.now w.leads.now w.numbers.now w.steps w.ends w.marks.marks w.marks.fresh w.counting w.turn_free × (w.numbers.now.width ≡ WIDTH) };
+    ghost invariant = { λ w. IsWalk w.problem.now w.leads.now w.numbers.now w.steps w.next w.ends w.marks.marks w.marks.fresh w.counting.value w.turn_free × (w.numbers.now.width ≡ WIDTH) };
 }
 
 impl<'a, const WIDTH: usize> Path<'a, WIDTH> {
-    /// The path at the node of no steps. All memory is taken here. Err where no memory is left.
+    /// The path at the node of no steps, whose children are all tried. All memory is taken here. Err where no memory is
+    /// left.
     pub fn new(
         alloc: Global,
         problem: &'a Problem,
@@ -75,17 +80,19 @@ impl<'a, const WIDTH: usize> Path<'a, WIDTH> {
         requires leads { leads.now ≡ lead_table problem.now }
         requires numbers { IsNumbered problem.now numbers.now }
         requires width { numbers.now.width ≡ WIDTH }
-        ensures { IfOk result (λ path. path ≡ path_from problem.now numbers.now []) }
+        ensures { IfOk result (λ path. path ≡ path_from problem.now numbers.now [] (length problem.now.leads)) }
     {
         let steps = Period::new(alloc)?;
         let ends = Ends::new(alloc)?;
         let marks = Marks::new(alloc, numbers.row_count())?;
-        let counting = Counting::new(alloc, problem)?;
+        let counts = Counting::new(alloc, problem)?;
+        let counting = Box::new(alloc, counts)?;
         Ok(Path {
             problem,
             leads,
             numbers,
             steps,
+            next: leads.count(),
             ends,
             marks,
             counting,
@@ -93,36 +100,36 @@ impl<'a, const WIDTH: usize> Path<'a, WIDTH> {
         })
     }
 
-    /// Goes to the child with the least step from this one on that is not dead, and gives the step. None where there
-    /// is no such child: the walk stays then. It takes no memory.
+    /// Goes to the child with the least step that is not tried yet and not dead, and gives the step. None where there
+    /// is no such child: the walk stays then, with all children tried. It takes no memory.
     #[inline(always)]
-    pub fn go_down(&mut self, from: u8) -> Option<u8>
+    pub fn go_down(&mut self) -> Option<u8>
         requires valid { IsValid self.old.problem self.old.node }
-        requires from { from ≤ length self.old.problem.leads }
         ensures step { result ≡ find (λ step. is_none (dead self.old.problem most_rows (child self.old.node step)))
-            (range_with_len from (length self.old.problem.leads - from)) }
-        ensures stays { IfNone result (self.new ≡ self.old) }
-        ensures goes { IfSome result (λ step. self.new ≡ path_from self.old.problem self.old.numbers (child self.old.node step)) }
+            (range_with_len self.old.next (length self.old.problem.leads - self.old.next)) }
+        ensures stays { IfNone result (self.new ≡ path_from self.old.problem self.old.numbers self.old.node (length self.old.problem.leads)) }
+        ensures goes { IfSome result (λ step. self.new ≡ path_from self.old.problem self.old.numbers (child self.old.node step) 0) }
     {
         what_is_hopeless_by_leads_is_hopeless();
         // A problem keeps all of its checks, so that there are few steps.
         let _ = self.problem.stage();
-        let mut next = from;
-        while let Some(step) = self.first_uncut(next) {
+        while let Some(step) = self.first_uncut() {
             if self.goes_live(step) {
                 return Some(step);
             }
-            next = step + 1;
         }
+        self.pass();
         None
     }
 
-    /// Goes back to the node without the last step, and gives that step. It takes no memory.
+    /// Goes back to the node without the last step, whose children after that step are not tried yet, and gives the
+    /// step. It takes no memory.
     #[inline(always)]
     pub fn go_up(&mut self) -> u8
         requires { 0 < length self.old.node }
         ensures problem { self.new.problem ≡ self.old.problem }
         ensures node { self.old.node ≡ child self.new.node result }
+        ensures next { self.new.next ≡ result + 1 }
     {
         let steps = self.steps.steps();
         let step = steps[steps.len() - 1];
@@ -130,13 +137,15 @@ impl<'a, const WIDTH: usize> Path<'a, WIDTH> {
         step
     }
 
-    /// Goes to a node. It does not leave the steps with which both begin, and takes no memory.
+    /// Goes to a node, of which no child is tried yet. It does not leave the steps with which both begin, and takes no
+    /// memory.
     pub fn go_to(&mut self, node: &[u8])
         requires valid { IsValid self.old.problem node.now }
-        ensures { self.new ≡ path_from self.old.problem self.old.numbers node.now }
+        ensures { self.new ≡ path_from self.old.problem self.old.numbers node.now 0 }
     {
         let front = common_front(self.steps.steps(), node);
         self.go_back_to(front);
+        self.begin();
         for index in front..node.len() {
             self.go_on(node[index]);
         }
@@ -162,6 +171,7 @@ impl<'a, const WIDTH: usize> Path<'a, WIDTH> {
     }
 
     /// The number of rows of the node.
+    #[inline(always)]
     pub fn length(&self) -> u64
         ensures is { result ≡ length_of self.now.problem self.now.node }
         ensures within { result ≤ room_of self.now.problem }
@@ -175,7 +185,7 @@ impl<'a, const WIDTH: usize> Path<'a, WIDTH> {
     pub fn comes_home(&self) -> bool
         ensures { IsTrue result ↔ (head_of self.now.problem (touch_of self.now.problem self.now.node) ≡ rounds self.now.problem.stage) }
     {
-        self.ends.last().home
+        self.ends.last().home == 1
     }
 
     /// Whether a row of the node stands twice.
@@ -188,6 +198,7 @@ impl<'a, const WIDTH: usize> Path<'a, WIDTH> {
 
     /// Whether all rows of the node's touch differ, where those of the node do and the touch comes home. It takes no
     /// memory, looks at half of the parts, and stops at the first lead that brings a row of the node again.
+    #[inline(always)]
     pub fn parts_differ(&self) -> bool
         requires fresh { rows_differ (rows_of self.now.problem self.now.node) ≡ true }
         requires home { head_of self.now.problem (touch_of self.now.problem self.now.node) ≡ rounds self.now.problem.stage }
@@ -198,7 +209,7 @@ impl<'a, const WIDTH: usize> Path<'a, WIDTH> {
         bring_new_rows::<WIDTH>(
             self.problem,
             self.numbers,
-            &self.marks,
+            self.marks.marks(),
             self.steps.steps(),
             base,
             parts,
@@ -206,6 +217,7 @@ impl<'a, const WIDTH: usize> Path<'a, WIDTH> {
     }
 
     /// Whether no rotation of the node is less than it.
+    #[inline(always)]
     pub fn is_least(&self) -> bool
         ensures { IsTrue result ↔ IsLeastRotation self.now.node }
     {
@@ -214,6 +226,7 @@ impl<'a, const WIDTH: usize> Path<'a, WIDTH> {
 
     /// Whether the node's touch, which is so many times the node as the query has parts, meets each count of marks
     /// and of methods.
+    #[inline(always)]
     pub fn meets_counts(&self) -> bool
         ensures { IsTrue result ↔ (MeetsCounts self.now.problem (touch_of self.now.problem self.now.node)
             × MeetsMethodCounts self.now.problem (touch_of self.now.problem self.now.node)) }
@@ -229,44 +242,40 @@ impl<'a, const WIDTH: usize> Path<'a, WIDTH> {
         !self.has_repeat() && !self.marks.has_first()
     }
 
-    // The least step from this one on by which the node's child is not cut.
+    // The least step that is not tried yet by which the node's child is not cut.
     #[inline(always)]
-    fn first_uncut(&mut self, from: u8) -> Option<u8>
-        requires from { from ≤ length self.old.problem.leads }
-        ensures first { IsFirstUncut self.old.problem most_rows self.old.node from result }
-        ensures same { self.new ≡ self.old }
+    fn first_uncut(&self) -> Option<u8>
+        ensures { IsFirstUncut self.now.problem most_rows self.now.node self.now.next result }
     {
-        let count = self.step_count();
-        let uncut = self.uncut_children();
-        let step = least_from(uncut, from);
-        if step >= count {
-            return None;
-        }
-        Some(step)
+        // A problem keeps all of its checks, so that there are few steps.
+        let _ = self.problem.stage();
+        least(self.ends.last().left)
     }
 
-    // The known set of steps by which the node's children are not cut. It is found once.
+    // Begins with the node's children, of which none is tried then.
     #[inline(always)]
-    fn uncut_children(&mut self) -> u32
-        ensures known { is_known result ≡ true }
-        ensures are { AreUncut self.old.problem self.old.node result }
-        ensures same { self.new ≡ self.old }
+    fn begin(&mut self)
+        ensures { self.new ≡ path_from self.old.problem self.old.numbers self.old.node 0 }
     {
-        let end = self.last_end();
-        if is_known(end.uncut) {
-            return end.uncut;
-        }
-        let uncut = self.find_uncut(end);
-        self.ends.keep_uncut(uncut);
-        uncut
+        let uncut = self.find_uncut(self.last_end());
+        self.ends.keep_left(uncut);
+        self.next = 0;
     }
 
-    // The same, found. All children of a node that is not clean are cut.
+    /// Takes all children of the node as tried.
+    #[inline(always)]
+    pub fn pass(&mut self)
+        ensures { self.new ≡ path_from self.old.problem self.old.numbers self.old.node (length self.old.problem.leads) }
+    {
+        self.next = self.step_count();
+        self.ends.keep_left(no_steps());
+    }
+
+    // The steps by which the children of the node are not cut. All children of a node that is not clean are cut.
     #[inline(always)]
     fn find_uncut(&self, end: LeadEnd) -> u32
         requires end { IsEnd self.now.problem self.now.numbers self.now.node end }
-        ensures known { is_known result ≡ true }
-        ensures are { AreUncut self.now.problem self.now.node result }
+        ensures { AreUncut self.now.problem self.now.node 0 result }
     {
         // A problem keeps all of its checks, so that there are few steps.
         let _ = self.problem.stage();
@@ -281,8 +290,7 @@ impl<'a, const WIDTH: usize> Path<'a, WIDTH> {
     fn judge_children(&self, end: LeadEnd) -> u32
         requires clean { is_clean self.now.problem self.now.node ≡ true }
         requires end { IsEnd self.now.problem self.now.numbers self.now.node end }
-        ensures known { is_known result ≡ true }
-        ensures are { AreUncut self.now.problem self.now.node result }
+        ensures { AreUncut self.now.problem self.now.node 0 result }
     {
         // Also those that turn back are looked at, which takes less time than a loop whose length is not foreseen.
         let mut uncut = no_steps();
@@ -369,22 +377,24 @@ impl<'a, const WIDTH: usize> Path<'a, WIDTH> {
         is_late | is_again | is_hopeless
     }
 
-    // Goes to the child by a step, which is not cut, if it is not dead, and says so.
+    // Goes to the child by a step, the first one that is not cut, if it is not dead, and says so. The step is tried then.
     #[inline(always)]
     fn goes_live(&mut self, step: u8) -> bool
-        requires step { step < length self.old.problem.leads }
-        requires uncut { is_cut self.old.problem most_rows (child self.old.node step) ≡ false }
+        requires { IsFirst self.old.problem most_rows self.old.node self.old.next step }
         ensures live { result ≡ is_live self.old.problem most_rows self.old.node step }
-        ensures path { MatchBool result (self.new ≡ path_from self.old.problem self.old.numbers (child self.old.node step)) (self.new ≡ self.old) }
+        ensures path { MatchBool result (self.new ≡ path_from self.old.problem self.old.numbers (child self.old.node step) 0)
+            (self.new ≡ path_from self.old.problem self.old.numbers self.old.node (step + 1)) }
     {
         what_is_hopeless_by_leads_is_hopeless();
         // A problem keeps all of its checks.
         let _ = self.problem.stage();
-        self.go(step, true);
+        let left = without_step(self.ends.last().left, step);
+        self.go(step, true, left);
         if self.is_hopeless() {
             self.back();
             return false;
         }
+        self.begin();
         true
     }
 
@@ -401,10 +411,15 @@ impl<'a, const WIDTH: usize> Path<'a, WIDTH> {
     fn go_on(&mut self, step: u8)
         requires few { length self.old.node < 1024 }
         requires valid { IsValid self.old.problem (child self.old.node step) }
-        ensures { self.new ≡ path_from self.old.problem self.old.numbers (child self.old.node step) }
+        requires begun { self.old.next ≡ 0 }
+        ensures { self.new ≡ path_from self.old.problem self.old.numbers (child self.old.node step) 0 }
     {
+        // A problem keeps all of its checks, so that there are few steps.
+        let _ = self.problem.stage();
         let is_new = self.brings_new_rows(step);
-        self.go(step, is_new);
+        let left = without_below(self.ends.last().left, step + 1);
+        self.go(step, is_new, left);
+        self.begin();
     }
 
     // Whether the rows of the child by a step differ.
@@ -419,34 +434,40 @@ impl<'a, const WIDTH: usize> Path<'a, WIDTH> {
         !self.numbers.has_row_twice(step) && !self.marks.has_some(self.numbers_after(end, step))
     }
 
-    // Goes to the child by a step, of whose rows it is known whether they differ.
+    // Goes to the child by a step, of whose rows it is known whether they differ, and keeps which children are left of
+    // the node. Those of the child are not begun with.
     #[inline(always)]
-    fn go(&mut self, step: u8, is_new: bool)
+    fn go(&mut self, step: u8, is_new: bool, left: u32)
         requires few { length self.old.node < 1024 }
         requires valid { IsValid self.old.problem (child self.old.node step) }
         requires new { is_new ≡ rows_differ (rows_of self.old.problem (child self.old.node step)) }
-        ensures { self.new ≡ path_from self.old.problem self.old.numbers (child self.old.node step) }
+        requires left { AreUncut self.old.problem self.old.node (step + 1) left }
+        ensures { self.new ≡ path_from self.old.problem self.old.numbers (child self.old.node step) (length self.old.problem.leads) }
     {
         let end = self.ends.last();
         let place = self.numbers.place(end.base, step);
         let lead = self.numbers.lead_at(place);
         self.marks
             .add(self.numbers.numbers_at::<WIDTH>(place), is_new);
-        self.ends.push(LeadEnd {
-            base: lead.next,
-            rung: end.rung + u32::from(lead.length),
-            uncut: 0,
-            home: lead.home,
-        });
+        self.ends.push(
+            left,
+            LeadEnd {
+                base: lead.next,
+                rung: end.rung + u32::from(lead.length),
+                left: no_steps(),
+                home: u32::from(lead.home),
+            },
+        );
         self.steps.push(step);
+        self.next = self.leads.count();
         self.counting.add_lead(self.numbers, place, step);
     }
 
-    // Goes back to the node without the last step.
+    // Goes back to the node without the last step, whose children after that step are not tried yet.
     #[inline(always)]
     fn back(&mut self)
         requires { 0 < length self.old.node }
-        ensures { self.new ≡ path_from self.old.problem self.old.numbers (parent self.old.node) }
+        ensures { self.new ≡ path_from self.old.problem self.old.numbers (parent self.old.node) (last_of self.old.node + 1) }
     {
         let number = self.steps.steps().len();
         let step = self.steps.steps()[number - 1];
@@ -456,13 +477,16 @@ impl<'a, const WIDTH: usize> Path<'a, WIDTH> {
         self.marks
             .take_back(number, self.numbers.numbers_at::<WIDTH>(place));
         self.steps.pop();
+        self.next = step + 1;
         self.counting.take_back(self.numbers, place, step);
     }
 
     // Goes back to so many steps.
     fn go_back_to(&mut self, number: usize)
         requires { number ≤ length self.old.node }
-        ensures { self.new ≡ path_from self.old.problem self.old.numbers (take number self.old.node) }
+        ensures problem { self.new.problem ≡ self.old.problem }
+        ensures numbers { self.new.numbers ≡ self.old.numbers }
+        ensures node { self.new.node ≡ take number self.old.node }
     {
         while self.steps().len() > number {
             self.back();

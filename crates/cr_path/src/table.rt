@@ -196,12 +196,13 @@ impl NumberTable {
         &self.fittings[pattern]
     }
 
-    /// How many rows of the lead at a place fit each pattern.
-    pub(crate) fn fits_at(&self, place: usize) -> Fits
+    /// Takes how many rows of the lead at a place fit each pattern.
+    #[inline(always)]
+    pub(crate) fn take_fits(&self, place: usize, fits: &mut Fits)
         requires { length self.now.fittings ≤ most_patterns }
-        ensures { result ≡ map (λ fitting. get_or fitting place 0) self.now.fittings }
+        ensures { fits.new ≡ map (λ fitting. get_or fitting place 0) self.now.fittings }
     {
-        Fits::at(&self.fittings, place)
+        fits.take(&self.fittings, place);
     }
 
     /// Whether a calling of the problem meets each pattern, and no rotation that is less does. Nothing is rung, and no

@@ -186,22 +186,19 @@ fn tells_of(
     )
 }
 
-// Goes to the first live child by a step from this one on.
-fn down(problem: &Problem, walk: &mut NumberWalk<3>, from: u8) -> Option<u8>
+// Goes to the first live child that is not tried yet.
+fn down(problem: &Problem, walk: &mut NumberWalk<3>) -> Option<u8>
     requires { walk.old.problem ≡ problem.now }
     ensures { walk.new.problem ≡ problem.now }
 {
     let _ = walk.steps();
-    if usize::from(from) > problem.leads().len() {
-        return None;
-    }
-    match walk.go_down(from) {
+    match walk.go_down() {
         Some(step) => Some(step),
         None => None,
     }
 }
 
-// Goes back, and gives the step to try next. None at the root.
+// Goes back, and gives the last step. None at the root.
 fn up(problem: &Problem, walk: &mut NumberWalk<3>) -> Option<u8>
     requires { walk.old.problem ≡ problem.now }
     ensures { walk.new.problem ≡ problem.now }
@@ -209,7 +206,7 @@ fn up(problem: &Problem, walk: &mut NumberWalk<3>) -> Option<u8>
     if walk.steps().is_empty() {
         return None;
     }
-    Some(walk.go_up().saturating_add(1))
+    Some(walk.go_up())
 }
 
 // Goes to the node of another walk.
@@ -232,9 +229,8 @@ fn visit_all(
     requires other { other.old.problem ≡ problem.now }
 {
     let mut nodes: u64 = 1;
-    let mut next = 0;
     for _ in 0..1_000 {
-        if down(problem, walk, next).is_some() {
+        if down(problem, walk).is_some() {
             follow(walk, other);
             if !tells_of(alloc, leads, walk, walk.steps())?
                 || !tells_of(alloc, leads, other, walk.steps())?
@@ -242,12 +238,8 @@ fn visit_all(
                 return Err(Fail::from("a walk says something else of a node"));
             }
             nodes = nodes.saturating_add(1);
-            next = 0;
-        } else {
-            match up(problem, walk) {
-                Some(step) => next = step,
-                None => return Ok(nodes),
-            }
+        } else if up(problem, walk).is_none() {
+            return Ok(nodes);
         }
     }
     Err(Fail::from("the tree has an end"))
@@ -260,8 +252,8 @@ enum Asked<'a> {
     LiveNodes,
     // Whether it tells of nodes what ringing does: 1 where it does.
     RowsTwice,
-    // Whether it goes down by the first live steps: 1 where it does.
-    FirstSteps,
+    // Whether it goes down by the live steps: 1 where it does.
+    LiveSteps,
     // Whether a node comes home: 1 where it does.
     Home(&'a [u8]),
 }
@@ -281,7 +273,7 @@ fn answer_of(alloc: Global, problem: &Problem, leads: &LeadTable, asked: Asked) 
     match asked {
         Asked::LiveNodes => live_nodes(alloc, problem, leads, &numbers, &mut walk),
         Asked::RowsTwice => Ok(u64::from(goes_to_all(alloc, problem, leads, &mut walk)?)),
-        Asked::FirstSteps => Ok(u64::from(goes_down_from_all(alloc, problem, leads, &mut walk)?)),
+        Asked::LiveSteps => Ok(u64::from(goes_down_from_all(alloc, problem, leads, &mut walk)?)),
         Asked::Home(node) => Ok(u64::from(comes_home(alloc, problem, leads, &mut walk, node)?)),
     }
 }
@@ -299,6 +291,11 @@ fn live_nodes(
     requires walk { walk.old.problem ≡ problem.now }
 {
     let mut other = walk_of(alloc, problem, leads, numbers)?;
+    // All children of the root are tried, unless it is gone to.
+    if down(problem, walk).is_some() {
+        return Err(Fail::from("no child is left of a new walk"));
+    }
+    follow(&other, walk);
     visit_all(alloc, problem, leads, walk, &mut other)
 }
 
@@ -377,17 +374,27 @@ fn nodes_with_rows_twice(rt: HostRuntime) -> Result<(), Fail> {
     Ok(())
 }
 
-// Of nodes that are gone to, one after another, the first live step from one on. The node of four plain leads has come
-// home; after a bob, a plain lead turns back; from the third step on there is none.
-const FIRST_STEPS: &[(&[u8], u8, Option<u8>)] = &[
-    (&[0, 0, 0], 1, Some(1)),
-    (&[0], 1, Some(1)),
-    (&[0, 0, 0, 0], 0, None),
-    (&[0, 0, 0], 0, Some(0)),
-    (&[1], 0, Some(1)),
-    (&[0], 2, None),
-    (&[0], 0, Some(0)),
+// Of nodes that are gone to, one after another, the live steps. The node of four plain leads has come home; after a bob, a
+// plain lead turns back.
+const LIVE_STEPS: &[(&[u8], &[u8])] = &[
+    (&[0, 0, 0], &[0, 1]),
+    (&[0], &[0, 1]),
+    (&[0, 0, 0, 0], &[]),
+    (&[1], &[1]),
 ];
+
+// Whether a walk goes down from its node by these steps, one after another, and by no other.
+fn goes_down_by(problem: &Problem, walk: &mut NumberWalk<3>, steps: &[u8]) -> bool
+    requires { walk.old.problem ≡ problem.now }
+    ensures { walk.new.problem ≡ problem.now }
+{
+    for step in steps {
+        if down(problem, walk) != Some(*step) || up(problem, walk) != Some(*step) {
+            return false;
+        }
+    }
+    down(problem, walk).is_none()
+}
 
 fn goes_down_from_all(
     alloc: Global,
@@ -397,8 +404,8 @@ fn goes_down_from_all(
 ) -> Result<bool, Fail>
     requires { walk.old.problem ≡ problem.now }
 {
-    for &(node, from, step) in FIRST_STEPS {
-        if !goes_to(alloc, problem, leads, walk, node)? || down(problem, walk, from) != step {
+    for &(node, steps) in LIVE_STEPS {
+        if !goes_to(alloc, problem, leads, walk, node)? || !goes_down_by(problem, walk, steps) {
             return Ok(false);
         }
     }
@@ -406,8 +413,8 @@ fn goes_down_from_all(
 }
 
 #[test]
-fn first_steps_of_nodes(rt: HostRuntime) -> Result<(), Fail> {
-    assert!(rt; answer(rt.alloc(), &DOUBLES, Asked::FirstSteps)? == 1);
+fn live_steps_of_nodes(rt: HostRuntime) -> Result<(), Fail> {
+    assert!(rt; answer(rt.alloc(), &DOUBLES, Asked::LiveSteps)? == 1);
     Ok(())
 }
 

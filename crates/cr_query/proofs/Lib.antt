@@ -10,3 +10,5 @@ pub mod Shares
 pub mod LookUps
 pub mod Tellings
 pub mod Metering
+pub mod StepSets
+pub mod Asked

@@ -1,5 +1,5 @@
 -- Numbers that go up and down, and their limits.
-use Rattle.std.specs.Prelude.{◌≡◌, ℕ, ◌+◌, ◌-◌, ◌*◌, ◌/◌, ◌<◌, ◌≤◌, ℤ, pos, int_lt, nat_abs, nat_lt, nat_le, nat_eq, Bool, ◌||◌, cond, List, count_by, map, All, Option}
+use Rattle.std.specs.Prelude.{◌≡◌, ℕ, ◌+◌, ◌-◌, ◌*◌, ◌/◌, ◌<◌, ◌≤◌, ℤ, pos, int_lt, nat_abs, nat_lt, nat_le, nat_eq, Bool, ◌||◌, cond, List, length, get_or, count_by, map, All, Option}
 use Rattle.std.specs.Int.{div_ceil}
 use Rattle.std.specs.List.{list_any, range_with_len, zip}
 use Rattle.cr_row.specs.Rows.{product}
@@ -10,6 +10,7 @@ use Rattle.cr_query.specs.declared.kinds.Kind.{Kind}
 use Rattle.cr_query.specs.declared.numbers.Numbers.{Numbers}
 use Rattle.cr_query.specs.declared.gauges.Gauge.{Gauge}
 use Rattle.cr_query.specs.declared.fittings.Fitting.{Fitting}
+use Rattle.cr_query.specs.Sets.{has_step}
 use Rattle.cr_query.specs.Shapes.{has_shape}
 
 -- how many leads each of so many equal parts has at least where all together have no fewer than a limit asks for
@@ -47,6 +48,10 @@ is_out more gauge = is_above gauge || is_below more gauge
 -- the number is within the limits
 abbrev pub IsIn : Gauge → Type 0
 IsIn gauge = (gauge.least ≤ gauge.number) × (gauge.number < gauge.beyond)
+
+-- of a step with this mark or letter, sets tell which gauges count it
+abbrev pub AreOf : ℕ → ℕ → List Gauge → List ℕ → Type 0
+AreOf step of gauges sets = (i : ℕ) (d : Gauge) → i < length gauges → has_step (get_or sets i 0) step ≡ nat_eq of (get_or gauges i d).of
 
 -- the numbers are no more than the leads of a calling
 abbrev pub AreFew : List Gauge → Type 0

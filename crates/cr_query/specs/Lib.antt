@@ -5,3 +5,5 @@ pub mod Meeting
 pub mod Keeping
 pub mod Gauges
 pub mod Meters
+pub mod Sets
+pub mod Hits

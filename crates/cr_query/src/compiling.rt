@@ -25,9 +25,10 @@ pub fn kinds_of(alloc: Global, problem: &Problem) -> Result<Vec<Kind>, NoMemory>
     Ok(kinds)
 }
 
-// The number of steps.
-fn step_count(problem: &Problem) -> u8
-    ensures { result ≡ length problem.now.leads }
+/// The number of steps.
+pub fn step_count(problem: &Problem) -> u8
+    ensures is { result ≡ length problem.now.leads }
+    ensures few { result ≤ 24 }
 {
     problem.leads().len() as u8
 }

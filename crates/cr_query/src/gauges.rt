@@ -1,8 +1,11 @@
 //! Limits on numbers of leads that go up and down.
 
-ghost use Rattle.std.specs.Prelude.{◌≡◌, ◌+◌, ◌≤◌, ◌↔◌, map, All, IsTrue};
+ghost use Rattle.std.specs.Prelude.{◌≡◌, ◌+◌, ◌<◌, ◌≤◌, ◌↔◌, ℕ, cond, length, map, All, IsTrue};
 ghost use Rattle.std.specs.List.{list_any};
-ghost use Rattle.cr_query.specs.Gauges.{hit, raised, lowered, is_above, is_below, is_out, IsIn, AreFew};
+ghost use Rattle.cr_query.specs.Gauges.{hit, at_number, raised, lowered, is_above, is_below, is_out, IsIn, AreFew, AreOf};
+ghost use Rattle.cr_query.specs.Sets.{has_step};
+
+use crate::sets::{joined, steps_where};
 
 /// Limits on the leads of a part with a mark or a letter, and how many there are: no fewer than the least, and
 /// fewer than what is beyond them.
@@ -72,6 +75,45 @@ pub fn some_out(gauges: &[Gauge], of: u8, more: u64) -> bool
         }
     }
     false
+}
+
+/// The steps with one lead of which some number is beyond its limits, or with so many more leads after it below its
+/// least. The sets are the steps that the gauges count.
+pub fn out_steps(gauges: &[Gauge], sets: &[u32], more: u64) -> u32
+    requires sets { length sets.now ≡ length gauges.now }
+    requires more { more ≤ 65535 }
+    requires few { AreFew gauges.now }
+    ensures { (step of : ℕ) → step < 32 → AreOf step of gauges.now sets.now
+        → has_step result step ≡ list_any (λ gauge. is_out more (raised of gauge)) gauges.now }
+{
+    let mut steps = 0;
+    for index in 0..gauges.len() {
+        steps = joined(steps, steps_out(gauges[index], sets[index], more));
+    }
+    steps
+}
+
+// The same of one gauge, which counts these steps. No step is asked by itself, and nothing is jumped over.
+fn steps_out(gauge: Gauge, set: u32, more: u64) -> u32
+    requires more { more ≤ 65535 }
+    requires few { gauge.number ≤ 1024 }
+    ensures { (step : ℕ) → step < 32
+        → has_step result step ≡ is_out more (at_number (gauge.number + cond (has_step set step) 1 0) gauge) }
+{
+    steps_where(set, is_out(one_more(gauge), more), is_out(gauge, more))
+}
+
+// The gauge after one lead more that it counts.
+fn one_more(gauge: Gauge) -> Gauge
+    requires { gauge.number ≤ 1024 }
+    ensures { result ≡ at_number (gauge.number + 1) gauge }
+{
+    Gauge {
+        of: gauge.of,
+        least: gauge.least,
+        beyond: gauge.beyond,
+        number: gauge.number + 1,
+    }
 }
 
 /// Whether each number is within its limits.
@@ -145,5 +187,5 @@ fn is_out(gauge: Gauge, more: u64) -> bool
     requires few { gauge.number ≤ 1025 }
     ensures { result ≡ is_out more gauge }
 {
-    is_above(gauge) || is_below(gauge, more)
+    is_above(gauge) | is_below(gauge, more)
 }

@@ -1,19 +1,23 @@
 //! What limits on leads count of a node.
 
-ghost use Rattle.std.specs.Prelude.{◌≡◌, ◌+◌, ◌<◌, ◌≤◌, ℕ, List, [], length, All, vec_len, vec_capacity, IfOk};
+ghost use Rattle.std.specs.Prelude.{◌≡◌, ◌+◌, ◌<◌, ◌≤◌, ◌||◌, ℕ, List, [], length, All, vec_len, vec_capacity, IfOk};
 ghost use Rattle.cr_model.specs.Problems.{ProblemParts};
 ghost use Rattle.cr_model.specs.Dead.{parts_of};
 ghost use Rattle.cr_model.specs.Sizes.{child};
-ghost use Rattle.cr_query.specs.Gauges.{too_many_leads, too_few_leads, hopeless_with, is_com_out, HasSmallCounts};
+ghost use Rattle.std.specs.List.{list_any};
+ghost use Rattle.cr_query.specs.Gauges.{raised, is_out, too_many_leads, too_few_leads, hopeless_with, is_com_out, AreOf, HasSmallCounts};
+ghost use Rattle.cr_query.specs.Sets.{has_step};
 ghost use Rattle.cr_query.specs.Meters.{kinds_of, parent, change_between, IsCounted};
 
 use crate::compiling::{letters_of, marks_of};
-use crate::gauges::{Gauge, lower, raise, some_above, some_below, some_out};
+use crate::gauges::{Gauge, lower, out_steps, raise, some_above, some_below, some_out};
+use crate::hits::Hits;
 use crate::kinds::Kind;
 use crate::limits::{exceeds, falls_short, is_above_com, is_below_com};
 use crate::meeting::{counts_of, method_counts_of};
 use crate::nodes::{change_to, cut, kind_at, put};
 use crate::numbers::{Numbers, in_parts, with_joins};
+use crate::sets::joined;
 use cr_model::Problem;
 use cr_model::laws::ringing_on;
 use cr_row::NoMemory;
@@ -26,10 +30,11 @@ const ROOM: usize = 1024;
 /// how many changes they have, and how often the method changes between them.
 #[derive(Drop)]
 pub struct LeadCounts {
+    // Apart from the changes: one load of both would have to wait for two stores.
+    pub length: u64,
     pub steps: Vec<u8>,
     pub marks: Vec<Gauge>,
     pub letters: Vec<Gauge>,
-    pub length: u64,
     pub changes: u64,
 }
 
@@ -46,15 +51,16 @@ impl LeadCounts {
         let marks = marks_of(alloc, counts_of(query), parts)?;
         let letters = letters_of(alloc, method_counts_of(query), parts)?;
         Ok(LeadCounts {
+            length: 0,
             steps,
             marks,
             letters,
-            length: 0,
             changes: 0,
         })
     }
 
     /// Counts one lead more, of this step.
+    #[inline(always)]
     pub fn add(&mut self, kinds: &[Kind], step: u8)
         requires step { step < length kinds.now }
         requires steps { All (λ step. step < length kinds.now) self.old.steps.items }
@@ -74,6 +80,7 @@ impl LeadCounts {
     }
 
     /// Counts one lead fewer, the last one, which is of this step.
+    #[inline(always)]
     pub fn take_back(&mut self, kinds: &[Kind], step: u8)
         requires step { step < length kinds.now }
         requires steps { All (λ step. step < length kinds.now) self.old.steps.items }
@@ -131,7 +138,25 @@ impl LeadCounts {
             || self.is_com_out_with(numbers, kinds, kind.method, left)
     }
 
-    // The same of changes of method alone, where the lead is of this one.
+    /// The steps with one lead of which there are too many or, with so many more after it, too few, where changes of
+    /// method have no limits.
+    pub fn out_steps(&self, hits: &Hits, left: u64) -> u32
+        requires marks { length hits.now.marks.items ≡ length self.now.marks.items }
+        requires letters { length hits.now.letters.items ≡ length self.now.letters.items }
+        requires small { HasSmallCounts self.now.marks.items self.now.letters.items self.now.length self.now.changes }
+        requires left { left ≤ 65535 }
+        ensures { (step mark letter : ℕ) → step < 32 → AreOf step mark self.now.marks.items hits.now.marks.items
+            → AreOf step letter self.now.letters.items hits.now.letters.items
+            → has_step result step ≡ (list_any (λ gauge. is_out left (raised mark gauge)) self.now.marks.items
+            || list_any (λ gauge. is_out left (raised letter gauge)) self.now.letters.items) }
+    {
+        joined(
+            out_steps(&self.marks, &hits.marks, left),
+            out_steps(&self.letters, &hits.letters, left),
+        )
+    }
+
+    // Whether with one lead more, of this method, there are too many changes of method, or too few.
     fn is_com_out_with(&self, numbers: Numbers, kinds: &[Kind], method: u8, left: u64) -> bool
         requires some { 1 ≤ numbers.parts }
         requires parts { numbers.parts ≤ 64 }

@@ -6,6 +6,7 @@ mod counting;
 mod fittings;
 mod fixing;
 mod gauges;
+mod hits;
 mod keeping;
 mod kinds;
 pub mod laws;
@@ -17,6 +18,7 @@ mod nodes;
 mod numbers;
 mod parts;
 mod rooms;
+mod sets;
 mod shape;
 mod turning;
 

@@ -1,26 +1,30 @@
 //! Meters: whether a node that grows and shrinks at its end can still come to a touch that meets the query.
 
-ghost use Rattle.std.specs.Prelude.{◌≡◌, ◌<◌, ◌↔◌, ℕ, true, false, List, [], length, Some, IsTrue, IfOk};
+ghost use Rattle.std.specs.Prelude.{◌≡◌, ◌<◌, ◌↔◌, ◌||◌, ℕ, true, false, List, [], length, Some, IsTrue, IfOk};
 ghost use Rattle.cr_leads.specs.Tables.{lead_table};
 ghost use Rattle.cr_model.specs.Callings.{head_of};
 ghost use Rattle.cr_model.specs.Dead.{is_too_many, is_too_few};
 ghost use Rattle.cr_model.specs.OneTurn.{touch_of};
 ghost use Rattle.cr_model.specs.Sizes.{child};
+ghost use Rattle.cr_query.specs.Hits.{AreAlike};
+ghost use Rattle.cr_query.specs.Sets.{has_step};
 ghost use Rattle.cr_query.specs.Meeting.{MeetsCounts, MeetsMethodCounts};
 ghost use Rattle.cr_query.specs.Meters.{meter_from, parent, rows_fitting_after, has_too_many_leads, has_too_few_leads, has_too_few_rows, is_hopeless_by_leads};
 ghost use Rattle.cr_query.specs.declared.meter.Hopeless.TheVariants.{TooMany, TooFew};
 
-use crate::compiling::{fittings_of, kinds_of};
+use crate::compiling::{fittings_of, kinds_of, step_count};
 use crate::fittings::{
     Fitting, lower_counted, lower_rows, raise_counted, raise_rows, some_have_fewer, some_have_more,
 };
 use crate::gauges::all_in;
+use crate::hits::{Hits, hits_of};
 use crate::kinds::Kind;
 use crate::leads::LeadCounts;
 use crate::meeting::patterns_of;
 use crate::nodes::kind_at;
 use crate::numbers::{Numbers, numbers_of};
 use crate::rooms::{room_at, rooms_of};
+use crate::sets::with_step;
 use cr_leads::LeadTable;
 use cr_model::Problem;
 use cr_model::laws::{joined_callings_multiply, ringing_on};
@@ -48,6 +52,8 @@ pub struct Meter {
     kinds: Vec<Kind>,
     // Of each length of a part.
     rooms: Vec<u16>,
+    // Of each count of leads.
+    hits: Hits,
     // Of the node.
     leads: LeadCounts,
     patterns: Vec<Fitting>,
@@ -56,6 +62,7 @@ pub struct Meter {
 impl Model for Meter {
     ghost use Rattle.std.specs.Prelude.{◌≤◌, vec_capacity};
     ghost use Rattle.cr_query.specs.Gauges.{HasSmallNumbers, HasSmallCounts, HasFewRows};
+    ghost use Rattle.cr_query.specs.Hits.{AreHits};
     ghost use Rattle.cr_query.specs.Meters.{MeterParts, meter_from, IsCompiled, IsCounted, HasFittings};
 
     ghost Value = { MeterParts };
@@ -69,7 +76,8 @@ impl Model for Meter {
         × HasSmallNumbers m.numbers
         × HasSmallCounts m.leads.marks.items m.leads.letters.items m.leads.length m.leads.changes
         × HasFewRows m.patterns.items
-        × (1024 ≤ vec_capacity m.leads.steps) };
+        × (1024 ≤ vec_capacity m.leads.steps)
+        × AreHits m.problem m.hits };
 }
 
 impl Meter {
@@ -80,6 +88,7 @@ impl Meter {
         let numbers = numbers_of(problem);
         let kinds = kinds_of(alloc, problem)?;
         let rooms = rooms_of(alloc, numbers)?;
+        let hits = hits_of(alloc, problem)?;
         let leads = LeadCounts::new(alloc, problem, numbers.parts)?;
         let patterns = fittings_of(alloc, problem.stage(), patterns_of(problem.query()))?;
         let problem = problem.copy(alloc)?;
@@ -88,6 +97,7 @@ impl Meter {
             numbers,
             kinds,
             rooms,
+            hits,
             leads,
             patterns,
         })
@@ -109,6 +119,7 @@ impl Meter {
 
     /// Goes to the node with this step more, where it is known how many rows of its lead fit each pattern. It takes
     /// no memory, and rings nothing.
+    #[inline(always)]
     pub fn add_counted(&mut self, step: u8, fitting: &[u8])
         requires step { step < length self.old.problem.leads }
         requires few { length self.old.node < 1024 }
@@ -135,6 +146,7 @@ impl Meter {
 
     /// Goes back to the node without its last step, which is this one, where it is known how many rows of its lead
     /// fit each pattern. It takes no memory, and rings nothing.
+    #[inline(always)]
     pub fn take_back_counted(&mut self, step: u8, fitting: &[u8])
         requires last { self.old.node ≡ child (parent self.old.node) step }
         requires fitting { fitting.now ≡ rows_fitting_after self.old.problem (parent self.old.node) step }
@@ -173,6 +185,53 @@ impl Meter {
         let left = room_at(&self.rooms, self.leads.length + u64::from(kind.length));
         self.leads
             .is_hopeless_with(self.numbers, &self.kinds, kind, left)
+    }
+
+    /// The steps, a bit for each, with one more of which the node is so by its leads alone.
+    #[inline(always)]
+    pub fn hopeless_steps(&self) -> u32
+        ensures { (step : ℕ) → step < length self.now.problem.leads
+            → has_step result step ≡ is_hopeless_by_leads self.now.problem (child self.now.node step) }
+    {
+        if self.asks_nothing_of_leads() {
+            return 0;
+        }
+        match self.hits.length {
+            Some(long) => self.hopeless_alike(long),
+            None => self.hopeless_one_by_one(),
+        }
+    }
+
+    // The same where all steps have so many changes, and changes of method no limits: all steps are asked at once.
+    fn hopeless_alike(&self, long: u8) -> u32
+        requires { AreAlike self.now.problem long }
+        ensures { (step : ℕ) → step < length self.now.problem.leads
+            → has_step result step ≡ is_hopeless_by_leads self.now.problem (child self.now.node step) }
+    {
+        ringing_on();
+        let left = room_at(&self.rooms, self.leads.length + u64::from(long));
+        self.leads.out_steps(&self.hits, left)
+    }
+
+    // The same where each step is asked by itself.
+    fn hopeless_one_by_one(&self) -> u32
+        ensures { (step : ℕ) → step < length self.now.problem.leads
+            → has_step result step ≡ is_hopeless_by_leads self.now.problem (child self.now.node step) }
+    {
+        let mut set = 0;
+        for step in 0..step_count(&self.problem) {
+            set = with_step(set, step, self.is_hopeless_with(step));
+        }
+        set
+    }
+
+    /// Whether the node has too many or too few rows that fit a pattern.
+    #[inline(always)]
+    pub fn is_hopeless_by_rows(&self) -> bool
+        ensures { is_hopeless_by_leads self.now.problem self.now.node ≡ false
+            → result ≡ (is_too_many self.now.problem self.now.node || is_too_few self.now.problem self.now.node) }
+    {
+        some_have_more(&self.patterns) | self.has_too_few_rows()
     }
 
     /// Whether the node's touch, which is so many times the node as the query has parts, meets each count of

@@ -563,12 +563,23 @@ fn told_at(
     let head = head_after(alloc, problem, leads, node)?;
     let mut meter = meter_at(alloc, problem, leads, node, is_counted)?;
     let before = meter.hopeless();
-    let by_leads = meter.is_hopeless_with(step);
+    let by_leads = is_hopeless_with(&meter, step, is_counted);
     add(alloc, &mut meter, problem, leads, step, &head, is_counted)?;
     let child = meter.hopeless();
     let counts = meter.meets_counts();
     back(alloc, &mut meter, problem, leads, step, &head, is_counted)?;
     Ok((Told(before, by_leads, child, counts), meter.hopeless()))
+}
+
+// Whether a meter tells that the node with a step more is hopeless by its leads: of this step alone, or of all at once.
+fn is_hopeless_with(meter: &Meter, step: u8, at_once: bool) -> bool
+    requires { step < length meter.now.problem.leads }
+{
+    if at_once {
+        (meter.hopeless_steps() >> (step & 31)) & 1 == 1
+    } else {
+        meter.is_hopeless_with(step)
+    }
 }
 
 // The head after a node.

@@ -114,6 +114,7 @@ impl Period {
     }
 
     /// Whether no rotation of the word is less than it.
+    #[inline(always)]
     pub fn is_least(&self) -> bool
         ensures { IsTrue result ↔ IsLeastRotation self.now }
     {
@@ -133,6 +134,7 @@ fn turns(steps: &[u8], periods: &[u16]) -> bool
 }
 
 #[tactic(auto, using(crate::proofs::LeastRotations::told_least, crate::proofs::LeastRotations::told_not_least, crate::proofs::LeastRotations::empty_least))]
+#[inline(always)]
 fn is_least_rotation(steps: &[u8], periods: &[u16]) -> bool
     requires { IsKept steps.now periods.now }
     ensures { IsTrue result ↔ IsLeastRotation steps.now }

@@ -12,6 +12,7 @@ mod searching;
 mod start;
 mod status;
 mod top;
+mod writing;
 
 pub use gate::{Gate, OpenGate};
 pub use notes::write_note;

@@ -138,6 +138,60 @@ fn write_words<N: Sink>(notes: &mut N, fault: WordsFault) -> Result<(), WriteFau
     }
 }
 
+// Appends the line of a fault: these words, and its number and name.
+fn write_fault<'a, N: Sink>(
+    notes: &mut N,
+    words: &'a [u8],
+    name: &'a [u8],
+) -> Result<(), WriteFault>
+    ensures { IsWritten N.grew N.faults notes.old notes.new result (line (words.now ++ name.now)) }
+{
+    write_line(notes, &[Text(words), Text(name)])
+}
+
+// The same with a detail.
+fn write_detail<'a, N: Sink>(
+    notes: &mut N,
+    words: &'a [u8],
+    name: &'a [u8],
+    detail: Piece<'a>,
+) -> Result<(), WriteFault>
+    ensures { IsWritten N.grew N.faults notes.old notes.new result (line (words.now ++ (name.now ++ piece_text detail.entry))) }
+{
+    write_line(notes, &[Text(words), Text(name), detail])
+}
+
+// The same with two details and a space between them.
+fn write_details<'a, N: Sink>(
+    notes: &mut N,
+    words: &'a [u8],
+    name: &'a [u8],
+    first: Piece<'a>,
+    second: Piece<'a>,
+) -> Result<(), WriteFault>
+    ensures { IsWritten N.grew N.faults notes.old notes.new result
+        (line (words.now ++ (name.now ++ (piece_text first.entry ++ (codes " " ++ piece_text second.entry))))) }
+{
+    write_line(notes, &[Text(words), Text(name), first, Text(b" "), second])
+}
+
+// Appends the line of a fault of a notation, whose words begin with a space.
+fn write_notation<'a, N: Sink>(
+    notes: &mut N,
+    words: &'a [u8],
+    name: &'a [u8],
+    index: u64,
+    wrong: NotationFault,
+) -> Result<(), WriteFault>
+    ensures { IsWritten N.grew N.faults notes.old notes.new result
+        (line (words.now ++ (name.now ++ (decimal index ++ notation_words wrong)))) }
+{
+    write_line(
+        notes,
+        &[Text(words), Text(name), Number(index), Wrong(wrong)],
+    )
+}
+
 // Appends the line of a fault of a problem: these words, and its number, its name and its details.
 fn write_problem<'a, N: Sink>(
     notes: &mut N,
@@ -147,115 +201,45 @@ fn write_problem<'a, N: Sink>(
     ensures { IsWritten N.grew N.faults notes.old notes.new result (line (words.now ++ problem_words fault.now)) }
 {
     match fault {
-        ProblemFault::NotToml => write_line(notes, &[Text(words), Text(b"1 NotToml")]),
-        ProblemFault::Key(key) => write_line(
-            notes,
-            &[Text(words), Text(b"2 Key "), Shown(&key.bytes)],
-        ),
-        ProblemFault::Stage(stage) => write_line(
-            notes,
-            &[Text(words), Text(b"3 Stage "), Signed(*stage)],
-        ),
-        ProblemFault::Letter(method) => write_line(
-            notes,
-            &[Text(words), Text(b"4 Letter "), Number(*method)],
-        ),
+        ProblemFault::NotToml => write_fault(notes, words, b"1 NotToml"),
+        ProblemFault::Key(key) => write_detail(notes, words, b"2 Key ", Shown(&key.bytes)),
+        ProblemFault::Stage(stage) => write_detail(notes, words, b"3 Stage ", Signed(*stage)),
+        ProblemFault::Letter(method) => write_detail(notes, words, b"4 Letter ", Number(*method)),
         ProblemFault::Notation(Whose::Method(index), wrong) => {
-            write_line(
-                notes,
-                &[
-                    Text(words),
-                    Text(b"5 Notation method "),
-                    Number(*index),
-                    Wrong(*wrong),
-                ],
-            )
+            write_notation(notes, words, b"5 Notation method ", *index, *wrong)
         }
         ProblemFault::Notation(Whose::Call(index), wrong) => {
-            write_line(
-                notes,
-                &[
-                    Text(words),
-                    Text(b"5 Notation call "),
-                    Number(*index),
-                    Wrong(*wrong),
-                ],
-            )
+            write_notation(notes, words, b"5 Notation call ", *index, *wrong)
         }
-        ProblemFault::Over(call) => write_line(
-            notes,
-            &[Text(words), Text(b"6 Over "), Number(*call)],
-        ),
-        ProblemFault::Mark(call) => write_line(
-            notes,
-            &[Text(words), Text(b"7 Mark "), Number(*call)],
-        ),
+        ProblemFault::Over(call) => write_detail(notes, words, b"6 Over ", Number(*call)),
+        ProblemFault::Mark(call) => write_detail(notes, words, b"7 Mark ", Number(*call)),
         ProblemFault::CallLength(call, method) => {
-            write_line(
+            write_details(
                 notes,
-                &[
-                    Text(words),
-                    Text(b"8 CallLength "),
-                    Number(*call),
-                    Text(b" "),
-                    Number(*method),
-                ],
+                words,
+                b"8 CallLength ",
+                Number(*call),
+                Number(*method),
             )
         }
         ProblemFault::Clash(first, second) => {
-            write_line(
-                notes,
-                &[
-                    Text(words),
-                    Text(b"9 Clash "),
-                    Number(*first),
-                    Text(b" "),
-                    Number(*second),
-                ],
-            )
+            write_details(notes, words, b"9 Clash ", Number(*first), Number(*second))
         }
-        ProblemFault::Steps(leads) => write_line(
-            notes,
-            &[Text(words), Text(b"10 Steps "), Number(*leads)],
-        ),
+        ProblemFault::Steps(leads) => write_detail(notes, words, b"10 Steps ", Number(*leads)),
         ProblemFault::Range(low, high) => {
-            write_line(
-                notes,
-                &[
-                    Text(words),
-                    Text(b"11 Range "),
-                    Signed(*low),
-                    Text(b" "),
-                    Signed(*high),
-                ],
-            )
+            write_details(notes, words, b"11 Range ", Signed(*low), Signed(*high))
         }
-        ProblemFault::Deep(depth) => write_line(
-            notes,
-            &[Text(words), Text(b"12 Deep "), Number(*depth)],
-        ),
-        ProblemFault::Parts(parts) => write_line(
-            notes,
-            &[Text(words), Text(b"13 Parts "), Signed(*parts)],
-        ),
+        ProblemFault::Deep(depth) => write_detail(notes, words, b"12 Deep ", Number(*depth)),
+        ProblemFault::Parts(parts) => write_detail(notes, words, b"13 Parts ", Signed(*parts)),
         ProblemFault::Count(CountAt::Mark(index)) => {
-            write_line(
-                notes,
-                &[Text(words), Text(b"14 Count count "), Number(*index)],
-            )
+            write_detail(notes, words, b"14 Count count ", Number(*index))
         }
         ProblemFault::Count(CountAt::Method(index)) => {
-            write_line(
-                notes,
-                &[Text(words), Text(b"14 Count leads "), Number(*index)],
-            )
+            write_detail(notes, words, b"14 Count leads ", Number(*index))
         }
-        ProblemFault::Pattern(index) => write_line(
-            notes,
-            &[Text(words), Text(b"15 Pattern "), Number(*index)],
-        ),
-        ProblemFault::NoMemory => write_line(notes, &[Text(words), Text(b"16 NoMemory")]),
-        ProblemFault::Com => write_line(notes, &[Text(words), Text(b"17 Com")]),
+        ProblemFault::Pattern(index) => write_detail(notes, words, b"15 Pattern ", Number(*index)),
+        ProblemFault::NoMemory => write_fault(notes, words, b"16 NoMemory"),
+        ProblemFault::Com => write_fault(notes, words, b"17 Com"),
     }
 }
 

@@ -14,8 +14,8 @@ use crate::boards::{Went, run};
 use crate::gate::{Gate, Gated};
 use crate::outcome::Outcome;
 use crate::start::{Start, start_of};
-use cr_book::book_pieces;
 use cr_book::laws::what_was_found_whole_is_the_book;
+use cr_book::{BookPieces, book_pieces};
 use cr_explore::make_search;
 use cr_model::Problem;
 use cr_model::laws::sizes_are_sums;
@@ -119,8 +119,12 @@ fn written<R: AllocGlobal + Threads + Sync>(
     each_touch_is_covered_once();
     what_was_found_whole_is_the_book();
     let stopped = stopped_after(&went.left, turns);
-    let pieces = pieces_after(rt, workers, problem, bytes, went, stopped)?;
-    Ok(Outcome { pieces, stopped })
+    let made = pieces_after(rt, workers, problem, bytes, went, stopped)?;
+    Ok(Outcome {
+        pieces: made.pieces,
+        stopped,
+        spent: made.spent,
+    })
 }
 
 // After how many turns the search stopped, if some job is left.
@@ -138,10 +142,10 @@ fn pieces_after<R: AllocGlobal + Threads + Sync>(
     bytes: &[u8],
     went: Went,
     stopped: Option<u64>,
-) -> Result<Vec<Vec<u8>>, NoMemory>
+) -> Result<BookPieces, NoMemory>
     requires file { ProblemFile bytes.now problem.now }
     requires came { IsLeft problem.now went.left.found.items (lists went.left.jobs.items) }
-    ensures { IfOk result (λ pieces. IsTextAfter problem.now bytes.now went.left.found.items (lists went.left.jobs.items) stopped (pieces_joined pieces.items)) }
+    ensures { IfOk result (λ made. IsTextAfter problem.now bytes.now went.left.found.items (lists went.left.jobs.items) stopped (pieces_joined made.pieces.items)) }
 {
     let Went { left, handed } = went;
     match stopped {
@@ -163,15 +167,18 @@ fn checkpoint_after(
     problem: &Problem,
     bytes: &[u8],
     left: Left,
-) -> Result<Vec<Vec<u8>>, NoMemory>
+) -> Result<BookPieces, NoMemory>
     requires file { ProblemFile bytes.now problem.now }
     requires came { IsLeft problem.now left.found.items (lists left.jobs.items) }
-    ensures { IfOk result (λ pieces. IsStopText problem.now bytes.now left.found.items (lists left.jobs.items) (pieces_joined pieces.items)) }
+    ensures { IfOk result (λ made. IsStopText problem.now bytes.now left.found.items (lists left.jobs.items) (pieces_joined made.pieces.items)) }
 {
     let ordered = left_in_order(alloc, problem, left.found, left.jobs)?;
     let text = checkpoint_of(alloc, problem, bytes, &ordered)?;
     let pieces = one_piece(alloc, text)?;
-    Ok(pieces)
+    Ok(BookPieces {
+        pieces,
+        spent: Vec::new(alloc),
+    })
 }
 
 // The checkpoint of what is left and in order.

@@ -21,7 +21,8 @@ use crate::making::summary_for;
 use crate::notes::write_note;
 use crate::outcome::Outcome;
 use crate::searching::text_for;
-use cr_io::{ReadEnd, Sink, Source, WriteFault, read_all, write_pieces, write_whole};
+use crate::writing::write_beside;
+use cr_io::{ReadEnd, Sink, Source, WriteFault, read_all, write_whole};
 use cr_model::laws::sizes_are_sums;
 use cr_read::bytes_have_one_answer as one_answer_of_a_file;
 use cr_row::NoMemory;
@@ -153,7 +154,13 @@ fn search<R: AllocGlobal + Threads + Wait + Sync, S: Source, K: Sink, G: Gate + 
         Err(status) => return status,
     };
     match text_for(rt, workers, input, turns, gate, BOARD_TURNS) {
-        Ok(Outcome { pieces, stopped }) => match write_pieces(sink, &pieces) {
+        Ok(
+            Outcome {
+                pieces,
+                stopped,
+                spent,
+            },
+        ) => match write_beside(rt, workers, sink, &pieces, spent) {
             Ok(()) => reached(stopped),
             Err(WriteFault) => Status::WriteFault,
         },

@@ -1,6 +1,6 @@
 use Rattle.std.proofs.Common.{◌≡◌, ◌≤◌, ◌-◌, length}
 use Rattle.cr_model.specs.Sizes.{most_rows}
-use Rattle.cr_explore.specs.Stacks.{stack_of, IsPlace}
+use Rattle.cr_explore.specs.Stacks.{place_at, stack_of, IsPlace}
 use Rattle.cr_explore.specs.Turns.{after_turns}
 use Rattle.cr_explore.proofs.search.take_turns.Given as goal
 
@@ -8,9 +8,9 @@ abbrev pub invariant-loop-used : goal.invariant-loop-used
 invariant-loop-used g l = record {
   few : l.used ≤ l.turns;
   problem : g.P.Path.problem_of l.path ≡ g.P.Path.problem_of l.initial.path;
-  place : IsPlace (g.P.Path.problem_of l.path) l.place (g.P.Path.node_of l.path);
-  left : l.place.left ≤ length l.job;
-  so_far : record { found = l.found.items; rest = stack_of (g.P.Path.problem_of l.initial.path) most_rows l.job l.place (g.P.Path.node_of l.path); used = l.used }
+  place : IsPlace (g.P.Path.problem_of l.path) (place_at 0 l.base (g.P.Path.next_of l.path)) (g.P.Path.node_of l.path);
+  left : l.left ≤ length l.job;
+  so_far : record { found = l.found.items; rest = stack_of (g.P.Path.problem_of l.initial.path) most_rows l.job (place_at l.left l.base (g.P.Path.next_of l.path)) (g.P.Path.node_of l.path); used = l.used }
       ≡ after_turns (g.P.Path.problem_of l.initial.path) most_rows l.job l.used;
 }
 

@@ -9,6 +9,6 @@ use Rattle.cr_path.proofs.parts.bring_new_rows.Given as goal
 abbrev pub invariant-loop-part : goal.invariant-loop-part
 invariant-loop-part g l = record {
   head : HasHead l.problem l.numbers l.base;
-  passed : (from : List ℕ) (rows : List (List ℕ)) → IsHead l.problem l.numbers from l.fn.base → IsTold l.problem l.numbers rows → AreOf l.numbers rows l.marks.marks
+  passed : (from : List ℕ) (rows : List (List ℕ)) → IsHead l.problem l.numbers from l.fn.base → IsTold l.problem l.numbers rows → AreOf l.numbers rows l.marks
       → IsPassed l.problem l.numbers rows from (changes_of_all l.problem (repeated l._part l.node)) l.base;
 }

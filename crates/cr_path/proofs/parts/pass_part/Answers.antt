@@ -25,14 +25,14 @@ place-place-requires-clause-step g c =
     let known = c.requires.steps c.loop-step.step-index 0 inside in
     omega (arith, known, c.requires.numbered.counted)
 
-pub has_some-requires : goal.has_some-requires
-has_some-requires g c =
+pub some_marked-requires : goal.some_marked-requires
+some_marked-requires g c =
     let t = c.args.numbers.now in
     subst (λ n. All (λ number. number < n) c.numbers_at.result.now) (sym c.requires.counted)
     (subst (All (λ number. number < length t.rows)) (sym c.numbers_at.ensures) (within_in c.args.problem.now t c.requires.numbered c.place-place.result))
 
-pub returns-then-has_some-clause-passes : goal.returns-then-has_some-clause-passes
-returns-then-has_some-clause-passes g c = λ row rows is told are.
+pub returns-then-some_marked-clause-passes : goal.returns-then-some_marked-clause-passes
+returns-then-some_marked-clause-passes g c = λ row rows is told are.
     let p = c.args.problem.now in
     let t = c.args.numbers.now in
     let index : ℕ = c.loop-step.step-index in
@@ -43,7 +43,7 @@ returns-then-has_some-clause-passes g c = λ row rows is told are.
     let here : List ℕ = last_of row (rows_from row (changes_of_all p (take index node))) in
     node_stopped p t rows row c.loop-step.base node index step inside refl passed
     (lead_stopped p t c.requires.numbered here c.loop-step.base step c.place-place.result passed.is (c.requires.steps index 0 inside) c.place-place.ensures.is
-    rows c.args.marks.now.marks told are c.numbers_at.result.now c.numbers_at.ensures c.has_some.result c.has_some.ensures c.if-has_some.true)
+    rows c.args.marks.now told are c.numbers_at.result.now c.numbers_at.ensures c.some_marked.result c.some_marked.ensures c.if-some_marked.true)
 
 pub loop-step-preserved : goal.loop-step-preserved
 loop-step-preserved g c =
@@ -62,7 +62,7 @@ loop-step-preserved g c =
           let here : List ℕ = last_of row (rows_from row (changes_of_all p (take index node))) in
           node_on p t rows row c.loop-step.base node index step inside refl passed c.lead_at-base.result.next
           (lead_passed p t c.requires.numbered here c.loop-step.base step c.place-place.result passed.is known c.place-place.ensures.is
-          rows c.args.marks.now.marks told are c.numbers_at.result.now c.numbers_at.ensures c.has_some.result c.has_some.ensures c.if-has_some.false c.lead_at-base.result c.lead_at-base.ensures);
+          rows c.args.marks.now told are c.numbers_at.result.now c.numbers_at.ensures c.some_marked.result c.some_marked.ensures c.if-some_marked.false c.lead_at-base.result c.lead_at-base.ensures);
     }
 
 pub returns-clause-passes : goal.returns-clause-passes

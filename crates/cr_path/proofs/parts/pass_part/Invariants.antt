@@ -8,6 +8,6 @@ use Rattle.cr_path.proofs.parts.pass_part.Given as goal
 abbrev pub invariant-loop-step : goal.invariant-loop-step
 invariant-loop-step g l = record {
   head : HasHead l.problem l.numbers l.base;
-  passed : (row : List ℕ) (rows : List (List ℕ)) → IsHead l.problem l.numbers row l.from → IsTold l.problem l.numbers rows → AreOf l.numbers rows l.marks.marks
+  passed : (row : List ℕ) (rows : List (List ℕ)) → IsHead l.problem l.numbers row l.from → IsTold l.problem l.numbers rows → AreOf l.numbers rows l.marks
       → IsPassed l.problem l.numbers rows row (changes_of_all l.problem (take l.step-index l.node)) l.base;
 }

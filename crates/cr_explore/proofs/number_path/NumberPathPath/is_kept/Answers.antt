@@ -6,8 +6,8 @@ use Rattle.cr_path.specs.Walks.{WalkParts}
 use Rattle.cr_explore.proofs.OneTest.{in_result}
 use Rattle.cr_explore.proofs.number_path.NumberPathPath.is_kept.Goals as goal
 
-pub returns-clause-kept : goal.returns-clause-kept
-returns-clause-kept g c =
+pub returns : goal.returns
+returns g c =
     let p = c.self.inside.problem.now in
     let node = c.self.inside.walk.node in
     let problem : p ≡ c.args.self.now.problem = sym c.self.invariant.walk_of ∙ ap (λ (w : WalkParts). w.problem) c.self.view_is in

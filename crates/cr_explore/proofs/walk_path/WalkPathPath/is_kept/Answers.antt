@@ -2,12 +2,12 @@ use Rattle.std.proofs.Common.{ℕ, List, ◌≡◌, Bool, IfOk, sym, ap, ap₂, 
 use Rattle.cr_model.specs.Problems.{ProblemParts}
 use Rattle.cr_model.specs.Decided.{is_kept}
 use Rattle.cr_model.specs.OneTurn.{touch_of}
-use Rattle.cr_prune.specs.Walks.{WalkParts}
+use Rattle.cr_path.specs.Walks.{WalkParts}
 use Rattle.cr_explore.proofs.OneTest.{in_result}
 use Rattle.cr_explore.proofs.walk_path.WalkPathPath.is_kept.Goals as goal
 
-pub returns-clause-kept : goal.returns-clause-kept
-returns-clause-kept c =
+pub returns : goal.returns
+returns c =
     let p = c.self.inside.problem.now in
     let node = c.self.inside.walk.node in
     let problem : p ≡ c.args.self.now.problem = sym c.self.invariant.walk_of ∙ ap (λ (w : WalkParts). w.problem) c.self.view_is in

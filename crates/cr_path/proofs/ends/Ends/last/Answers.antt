@@ -1,11 +1,14 @@
 use Rattle.std.proofs.Common.{sym, subst, take}
-use Rattle.cr_path.specs.declared.ends.LeadEnd.{LeadEnd}
 use Rattle.cr_path.specs.Ends.{AreEnds}
-use Rattle.cr_path.proofs.Kept.{last_end}
+use Rattle.cr_path.proofs.Kept.{last_end, last_left}
 use Rattle.cr_path.proofs.ends.Ends.last.Goals as goal
 
-pub returns : goal.returns
-returns c p t node are =
+pub returns-clause-is : goal.returns-clause-is
+returns-clause-is c p t node next are =
     let e = c.self.inside in
-    let last : LeadEnd = record { base = e.last.base; rung = e.last.rung; uncut = e.uncut; home = e.last.home } in
-    last_end p t node (take e.count e.ends.items) last (subst (AreEnds p t node) (sym c.self.view_is) are)
+    last_end p t node next (take e.count e.ends.items) e.last (subst (AreEnds p t node next) (sym c.self.view_is) are)
+
+pub returns-clause-left : goal.returns-clause-left
+returns-clause-left c p t node next are =
+    let e = c.self.inside in
+    last_left p t node next (take e.count e.ends.items) e.last (subst (AreEnds p t node next) (sym c.self.view_is) are)

@@ -30,7 +30,7 @@ has_some-requires g c =
     let w = c.self.inside in
     let are : c.numbers_after.result.now ≡ numbers_of w.numbers.now (c.last_end-end.result.base + c.args.step) =
     c.numbers_after.ensures.are ∙ ap (λ (v : PathParts). numbers_of v.numbers (c.last_end-end.result.base + c.args.step)) (sym c.self.view_is) in
-    have_marks w.problem.now w.leads.now w.numbers.now w.steps w.ends w.marks.marks w.marks.fresh w.counting w.turn_free c.self.invariant.0 (c.last_end-end.result.base + c.args.step) c.numbers_after.result.now are
+    have_marks w.problem.now w.leads.now w.numbers.now w.steps w.next w.ends w.marks.marks w.marks.fresh w.counting.value w.turn_free c.self.invariant.0 (c.last_end-end.result.base + c.args.step) c.numbers_after.result.now are
 
 pub returns-then-not-has_row_twice : goal.returns-then-not-has_row_twice
 returns-then-not-has_row_twice g c =
@@ -47,7 +47,7 @@ returns-then-not-has_row_twice g c =
     let twice_is = c.has_row_twice.ensures ∙ twice_at p t.twice c.args.step false is.numbered.twice inside in
     ap₂ (λ a b. not a && not b) (sym c.if-not-has_row_twice.true) c.has_some.ensures
     ∙ new_told p t is.numbered w.steps w.marks.marks w.marks.fresh is.marked differ c.args.step place
-    (told_after p t is.numbered w.steps w.ends is.ends is.valid c.last_end-end.result c.args.step at_end inside) c.has_row_twice.result twice_is c.numbers_after.result.now are
+    (told_after p t is.numbered w.steps w.next w.ends is.ends is.valid c.last_end-end.result c.args.step at_end inside) c.has_row_twice.result twice_is c.numbers_after.result.now are
     ∙ ap (λ (v : PathParts). rows_differ (rows_of v.problem (child v.node c.args.step))) c.self.view_is
 
 pub returns-else-not-has_row_twice : goal.returns-else-not-has_row_twice
@@ -64,5 +64,5 @@ returns-else-not-has_row_twice g c =
     let twice_is = c.has_row_twice.ensures ∙ twice_at p t.twice c.args.step false is.numbered.twice inside in
     ap not c.if-not-has_row_twice.false ∙ ap (λ a. not a && not (some_marked w.marks.marks (numbers_of t place))) (sym c.if-not-has_row_twice.false)
     ∙ new_told p t is.numbered w.steps w.marks.marks w.marks.fresh is.marked differ c.args.step place
-    (told_after p t is.numbered w.steps w.ends is.ends is.valid c.last_end-end.result c.args.step at_end inside) c.has_row_twice.result twice_is (numbers_of t place) refl
+    (told_after p t is.numbered w.steps w.next w.ends is.ends is.valid c.last_end-end.result c.args.step at_end inside) c.has_row_twice.result twice_is (numbers_of t place) refl
     ∙ ap (λ (v : PathParts). rows_differ (rows_of v.problem (child v.node c.args.step))) c.self.view_is

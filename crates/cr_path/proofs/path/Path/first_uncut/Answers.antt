@@ -1,15 +1,13 @@
-use Rattle.std.proofs.Common.{arith}
-use Rattle.cr_path.proofs.Uncut.{none_uncut, first_found}
+use Rattle.std.proofs.Common.{subst}
+use Rattle.cr_model.specs.Sizes.{most_rows}
+use Rattle.cr_path.specs.Living.{IsFirstUncut}
+use Rattle.cr_path.specs.Walks.{PathParts}
+use Rattle.cr_path.proofs.Uncut.{few_steps, first_uncut_is}
 use Rattle.cr_path.proofs.path.Path.first_uncut.Goals as goal
 
-pub returns-then-step-count-clause-first : goal.returns-then-step-count-clause-first
-returns-then-step-count-clause-first g c =
-    let v = c.args.self.now in
-    none_uncut v.problem v.node c.uncut_children-uncut.result c.args.from c.least_from-step.result c.uncut_children-uncut.ensures.are c.least_from-step.ensures.least
-    (omega (arith, c.if-step-count.true, c.step_count-count.ensures.is))
-
-pub returns-clause-first : goal.returns-clause-first
-returns-clause-first g c =
-    let v = c.args.self.now in
-    first_found v.problem v.node c.uncut_children-uncut.result c.args.from c.least_from-step.result c.uncut_children-uncut.ensures.are c.least_from-step.ensures.least
-    c.least_from-step.ensures.from (omega (arith, c.if-step-count.false, c.step_count-count.ensures.is)) c.least_from-step.ensures.is
+pub returns : goal.returns
+returns g c =
+    let w = c.self.inside in
+    subst (λ (v : PathParts). IsFirstUncut v.problem most_rows v.node v.next c.least.result) c.self.view_is
+    (first_uncut_is w.problem.now w.steps w.next c.last.result.left (few_steps w.problem.now c.self.invariant.0.sound)
+    (c.last.ensures.left w.problem.now w.numbers.now w.steps w.next c.self.invariant.0.ends) c.least.result c.least.ensures.none c.least.ensures.some)

@@ -1,38 +1,63 @@
-use Rattle.std.proofs.Common.{◌≡◌, ◌+◌, ◌≤◌, ◌∙◌, true, false, length, sym, subst, arith}
-use Rattle.cr_model.specs.Sizes.{most_rows}
+use Rattle.std.proofs.Common.{◌≡◌, ◌+◌, ◌≤◌, ◌<◌, ◌∙◌, true, false, length, refl, sym, ap, subst, arith}
+use Rattle.cr_model.specs.Sizes.{most_rows, child}
 use Rattle.cr_path.specs.Living.{is_live, AreCut, IsFirst}
-use Rattle.cr_path.specs.Walks.{PathParts}
+use Rattle.cr_path.specs.Walks.{PathParts, path_from}
 use Rattle.cr_path.proofs.Living.{AreDead, dead_on, one_dead_more, first_live, none_live}
 use Rattle.cr_path.proofs.path.Path.go_down.Goals as goal
+
+pub loop-step-init : goal.loop-step-init
+loop-step-init g c = record {
+  walk = refl;
+  from = omega arith;
+  within = subst (λ (v : PathParts). v.next ≤ length v.problem.leads) c.self.view_is c.self.invariant.0.tried;
+  dead = λ step low high. absurd (omega (arith, low, high));
+}
 
 pub returns-then-goes_live-clause-step : goal.returns-then-goes_live-clause-step
 returns-then-goes_live-clause-step g c =
     let v = c.args.self.now in
-    let first = subst (λ (w : PathParts). IsFirst w.problem most_rows w.node c.loop-step.next c.in-Some.step) c.loop-step.invariant.walk c.in-Some.ensures.first in
-    let dead = subst (λ (w : PathParts). AreDead w.problem w.node c.args.from c.loop-step.next) c.loop-step.invariant.walk c.loop-step.invariant.dead in
-    let lives = subst (λ (w : PathParts). is_live w.problem most_rows w.node c.in-Some.step ≡ true) (c.in-Some.ensures.same ∙ c.loop-step.invariant.walk) (sym c.if-goes_live.ensures.live) in
-    first_live v.problem v.node c.args.from c.in-Some.step (omega (arith, c.loop-step.invariant.from, first.from_on)) first.known
-    (dead_on c.what_is_hopeless_by_leads_is_hopeless.ensures v.problem v.node c.args.from c.loop-step.next c.in-Some.step dead first.before) lives
+    let is = c.loop-step.invariant in
+    let first = subst (λ (w : PathParts). IsFirst w.problem most_rows w.node w.next c.in-Some.step) is.walk c.in-Some.ensures in
+    let lives = subst (λ (w : PathParts). is_live w.problem most_rows w.node c.in-Some.step ≡ true) is.walk (sym c.if-goes_live.ensures.live) in
+    first_live v.problem v.node v.next c.in-Some.step (omega (arith, is.from, first.from_on)) first.known
+    (dead_on c.what_is_hopeless_by_leads_is_hopeless.ensures v.problem v.node v.next c.loop-step.self.next c.in-Some.step is.dead first.before) lives
+
+pub returns-then-goes_live-clause-goes : goal.returns-then-goes_live-clause-goes
+returns-then-goes_live-clause-goes g c =
+    c.if-goes_live.ensures.path ∙ ap (λ (w : PathParts). path_from w.problem w.numbers (child w.node c.in-Some.step) 0) c.loop-step.invariant.walk
+
+pub loop-step-smaller : goal.loop-step-smaller
+loop-step-smaller g c =
+    let is = c.loop-step.invariant in
+    let first = subst (λ (w : PathParts). IsFirst w.problem most_rows w.node w.next c.in-Some.step) is.walk c.in-Some.ensures in
+    let next : c.goes_live.new.self.next ≡ c.in-Some.step + 1 = ap (λ (w : PathParts). w.next) c.if-goes_live.ensures.path in
+    omega (arith, next, first.known, first.from_on)
 
 pub loop-step-preserved : goal.loop-step-preserved
 loop-step-preserved g c =
-    let w = c.loop-step.self in
-    let same = c.if-goes_live.ensures.path ∙ c.in-Some.ensures.same in
-    let here = subst (λ (v : PathParts). is_live v.problem most_rows v.node c.in-Some.step ≡ false) c.in-Some.ensures.same (sym c.if-goes_live.ensures.live) in
-    let first = c.in-Some.ensures.first in
-    let within : c.in-Some.step + 1 ≤ length w.problem.leads = omega (arith, first.known) in
+    let v = c.args.self.now in
+    let is = c.loop-step.invariant in
+    let first = subst (λ (w : PathParts). IsFirst w.problem most_rows w.node w.next c.in-Some.step) is.walk c.in-Some.ensures in
+    let here = subst (λ (w : PathParts). is_live w.problem most_rows w.node c.in-Some.step ≡ false) is.walk (sym c.if-goes_live.ensures.live) in
+    let now : c.goes_live.new.self ≡ path_from v.problem v.numbers v.node (c.in-Some.step + 1) =
+    c.if-goes_live.ensures.path ∙ ap (λ (w : PathParts). path_from w.problem w.numbers w.node (c.in-Some.step + 1)) is.walk in
+    let next : c.goes_live.new.self.next ≡ c.in-Some.step + 1 = ap (λ (w : PathParts). w.next) now in
     record {
-      walk = same ∙ c.loop-step.invariant.walk;
-      from = omega (arith, c.loop-step.invariant.from, first.from_on);
-      within = subst (λ (v : PathParts). c.in-Some.step + 1 ≤ length v.problem.leads) (sym same) within;
-      dead = subst (λ (v : PathParts). AreDead v.problem v.node c.args.from (c.in-Some.step + 1)) (sym same)
-          (one_dead_more c.what_is_hopeless_by_leads_is_hopeless.ensures w.problem w.node c.args.from c.in-Some.step
-          (dead_on c.what_is_hopeless_by_leads_is_hopeless.ensures w.problem w.node c.args.from c.loop-step.next c.in-Some.step c.loop-step.invariant.dead first.before) here);
+      walk = now ∙ ap (path_from v.problem v.numbers v.node) (sym next);
+      from = omega (arith, next, is.from, first.from_on);
+      within = omega (arith, next, first.known);
+      dead = subst (AreDead v.problem v.node v.next) (sym next)
+          (one_dead_more c.what_is_hopeless_by_leads_is_hopeless.ensures v.problem v.node v.next c.in-Some.step
+          (dead_on c.what_is_hopeless_by_leads_is_hopeless.ensures v.problem v.node v.next c.loop-step.self.next c.in-Some.step is.dead first.before) here);
     }
 
 pub returns-clause-step : goal.returns-clause-step
 returns-clause-step g c =
     let v = c.args.self.now in
-    let cut = subst (λ (w : PathParts). AreCut w.problem most_rows w.node c.loop-step.next (length w.problem.leads)) c.loop-step.invariant.walk c.in_default.ensures.first in
-    let dead = subst (λ (w : PathParts). AreDead w.problem w.node c.args.from c.loop-step.next) c.loop-step.invariant.walk c.loop-step.invariant.dead in
-    none_live v.problem v.node c.args.from c.requires.from (dead_on c.what_is_hopeless_by_leads_is_hopeless.ensures v.problem v.node c.args.from c.loop-step.next (length v.problem.leads) dead cut)
+    let is = c.loop-step.invariant in
+    let cut = subst (λ (w : PathParts). AreCut w.problem most_rows w.node w.next (length w.problem.leads)) is.walk c.in_default.ensures in
+    none_live v.problem v.node v.next (omega (arith, is.from, is.within))
+    (dead_on c.what_is_hopeless_by_leads_is_hopeless.ensures v.problem v.node v.next c.loop-step.self.next (length v.problem.leads) is.dead cut)
+
+pub returns-clause-stays : goal.returns-clause-stays
+returns-clause-stays g c = c.pass.ensures ∙ ap (λ (w : PathParts). path_from w.problem w.numbers w.node (length w.problem.leads)) c.loop-step.invariant.walk

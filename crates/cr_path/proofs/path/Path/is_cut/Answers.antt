@@ -5,6 +5,7 @@ use Rattle.cr_path.specs.Ends.{IsEnd}
 use Rattle.cr_path.specs.Living.{is_clean, is_cut}
 use Rattle.cr_path.specs.Marks.{IsLead}
 use Rattle.cr_path.specs.Numbers.{numbers_of}
+use Rattle.cr_path.specs.Counted.{IsCounted}
 use Rattle.cr_path.specs.Walks.{PathParts}
 use Rattle.cr_path.proofs.Living.{child_told}
 use Rattle.cr_path.proofs.Walking.{have_marks}
@@ -14,7 +15,7 @@ pub has_some-is_again-requires : goal.has_some-is_again-requires
 has_some-is_again-requires g c =
     let w = c.self.inside in
     let place : ℕ = c.args.end.base + c.args.step in
-    have_marks w.problem.now w.leads.now w.numbers.now w.steps w.ends w.marks.marks w.marks.fresh w.counting w.turn_free c.self.invariant.0 place c.numbers_after.result.now
+    have_marks w.problem.now w.leads.now w.numbers.now w.steps w.next w.ends w.marks.marks w.marks.fresh w.counting.value w.turn_free c.self.invariant.0 place c.numbers_after.result.now
     (c.numbers_after.ensures.are ∙ ap (λ (v : PathParts). numbers_of v.numbers place) (sym c.self.view_is))
 
 pub returns : goal.returns
@@ -32,5 +33,5 @@ returns g c straight =
     c.numbers_after.result.now are (nat_le c.from.result c.args.end.rung) c.has_some-is_again.result
     (ap (λ n. nat_le n c.args.end.rung) c.from.ensures) c.has_some-is_again.ensures
     (subst (λ (v : PathParts). is_turned_back v.problem (child v.node c.args.step) ≡ false) (sym c.self.view_is) straight)
-    c.is_hopeless_with-is_hopeless.result (c.is_hopeless_with-is_hopeless.ensures p w.steps c.self.invariant.0.counted)
+    c.is_hopeless_with-is_hopeless.result (c.is_hopeless_with-is_hopeless.ensures p w.steps (subst (IsCounted p w.steps) (sym c.deref.ensures) c.self.invariant.0.counted))
     ∙ ap (λ (v : PathParts). is_cut v.problem most_rows (child v.node c.args.step)) c.self.view_is

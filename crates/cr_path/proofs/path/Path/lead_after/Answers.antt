@@ -16,7 +16,7 @@ place-requires-clause-base g c =
 pub place-requires-clause-step : goal.place-requires-clause-step
 place-requires-clause-step g c =
     let w = c.self.inside in
-    step_tabled w.problem.now w.leads.now w.numbers.now w.steps w.ends w.marks.marks w.marks.fresh w.counting w.turn_free c.self.invariant.0 c.args.step
+    step_tabled w.problem.now w.leads.now w.numbers.now w.steps w.next w.ends w.marks.marks w.marks.fresh w.counting.value w.turn_free c.self.invariant.0 c.args.step
     (subst (λ (v : PathParts). c.args.step < length v.problem.leads) (sym c.self.view_is) c.requires.step)
 
 pub returns : goal.returns
@@ -27,4 +27,4 @@ returns g c =
     let at_end = subst (λ (v : PathParts). IsEnd v.problem v.numbers v.node c.args.end) (sym c.self.view_is) c.requires.end in
     let inside = subst (λ (v : PathParts). c.args.step < length v.problem.leads) (sym c.self.view_is) c.requires.step in
     subst (λ (v : PathParts). IsLead v.problem v.numbers v.node c.args.step (c.args.end.base + c.args.step) c.lead_at.result) c.self.view_is
-    (lead_found p t c.self.invariant.0.numbered w.steps w.ends c.self.invariant.0.ends c.self.invariant.0.valid c.args.end c.args.step c.place.result c.lead_at.result at_end inside c.place.ensures.is c.lead_at.ensures)
+    (lead_found p t c.self.invariant.0.numbered w.steps w.next w.ends c.self.invariant.0.ends c.self.invariant.0.valid c.args.end c.args.step c.place.result c.lead_at.result at_end inside c.place.ensures.is c.lead_at.ensures)

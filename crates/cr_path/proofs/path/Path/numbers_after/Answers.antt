@@ -16,7 +16,7 @@ place-requires-clause-base g c =
 pub place-requires-clause-step : goal.place-requires-clause-step
 place-requires-clause-step g c =
     let w = c.self.inside in
-    step_tabled w.problem.now w.leads.now w.numbers.now w.steps w.ends w.marks.marks w.marks.fresh w.counting w.turn_free c.self.invariant.0 c.args.step
+    step_tabled w.problem.now w.leads.now w.numbers.now w.steps w.next w.ends w.marks.marks w.marks.fresh w.counting.value w.turn_free c.self.invariant.0 c.args.step
     (subst (λ (v : PathParts). c.args.step < length v.problem.leads) (sym c.self.view_is) c.requires.step)
 
 pub returns-clause-are : goal.returns-clause-are

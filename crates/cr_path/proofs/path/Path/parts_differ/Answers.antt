@@ -6,6 +6,7 @@ use Rattle.cr_model.specs.Decided.{rows_differ}
 use Rattle.cr_model.specs.Levels.{is_listed}
 use Rattle.cr_model.specs.OneTurn.{touch_of}
 use Rattle.cr_model.specs.Queries.{repeated}
+use Rattle.cr_path.specs.Marks.{AreOf}
 use Rattle.cr_path.specs.Walks.{PathParts}
 use Rattle.cr_path.proofs.Children.{head_long}
 use Rattle.cr_path.proofs.Marking.{all_fresh, marks_of}
@@ -16,7 +17,7 @@ use Rattle.cr_path.proofs.path.Path.parts_differ.Goals as goal
 pub bring_new_rows-requires-clause-head : goal.bring_new_rows-requires-clause-head
 bring_new_rows-requires-clause-head g c =
     let w = c.self.inside in
-    let at_end = c.last-base.ensures w.problem.now w.numbers.now w.steps c.self.invariant.0.ends in
+    let at_end = c.last-base.ensures.is w.problem.now w.numbers.now w.steps w.next c.self.invariant.0.ends in
     record { row = head_of w.problem.now w.steps; is = record { from = at_end.from; long = head_long w.problem.now w.steps } }
 
 pub returns : goal.returns
@@ -24,11 +25,11 @@ returns g c =
     let w = c.self.inside in
     let p = w.problem.now in
     let t = w.numbers.now in
-    let at_end = c.last-base.ensures p t w.steps c.self.invariant.0.ends in
+    let at_end = c.last-base.ensures.is p t w.steps w.next c.self.invariant.0.ends in
     let differ : rows_differ (rows_of p w.steps) ≡ true = ap (λ (v : PathParts). rows_differ (rows_of v.problem v.node)) c.self.view_is ∙ c.requires.fresh in
     let home : head_of p (touch_of p w.steps) ≡ rounds p.stage = subst (λ (v : PathParts). head_of v.problem (touch_of v.problem v.node) ≡ rounds v.problem.stage) (sym c.self.view_is) c.requires.home in
     c.bring_new_rows.ensures (head_of p w.steps) (rows_of p w.steps) (record { from = at_end.from; long = head_long p w.steps })
-    (told_all p t c.self.invariant.0.numbered w.steps w.ends c.self.invariant.0.ends c.self.invariant.0.valid) (marks_of p t w.steps w.marks.marks w.marks.fresh c.self.invariant.0.marked (all_fresh p t w.steps w.marks.marks w.marks.fresh c.self.invariant.0.marked differ))
+    (told_all p t c.self.invariant.0.numbered w.steps w.next w.ends c.self.invariant.0.ends c.self.invariant.0.valid) (subst (AreOf t (rows_of p w.steps)) (sym c.marks.ensures) (marks_of p t w.steps w.marks.marks w.marks.fresh c.self.invariant.0.marked (all_fresh p t w.steps w.marks.marks w.marks.fresh c.self.invariant.0.marked differ)))
     ∙ ap (λ (word : List ℕ). not (list_any (is_listed (rows_of p w.steps)) (rows_from (head_of p w.steps) (changes_of_all p (repeated c.parts_to_try-parts.result word))))) c.steps.ensures.is
     ∙ touch_told p w.steps c.parts_to_try-parts.result differ home c.parts_to_try-parts.ensures.within c.parts_to_try-parts.ensures.enough
     ∙ ap (λ (v : PathParts). rows_differ (rows_of v.problem (touch_of v.problem v.node))) c.self.view_is

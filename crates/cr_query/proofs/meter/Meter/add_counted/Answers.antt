@@ -29,4 +29,4 @@ invariant_of-self c =
     let same : length c.raise_counted.new.fittings ≡ length m.patterns.items =
     as_many p (child node c.args.step) node c.raise_counted.new.fittings m.patterns.items fitting c.self.invariant.2 in
     let all = kept p (child node c.args.step) c.add.new.self _ c.self.invariant.0.sound counted (written m.patterns.len m.patterns.items c.raise_counted.new.fittings m.patterns.ok.0 same ∙ fitting) in
-    (c.self.invariant.0, all.0, all.1, c.self.invariant.3, all.2, all.3, omega (arith, c.add.ensures.room, c.self.invariant.6))
+    (c.self.invariant.0, all.0, all.1, c.self.invariant.3, all.2, all.3, omega (arith, c.add.ensures.room, c.self.invariant.6), c.self.invariant.7)

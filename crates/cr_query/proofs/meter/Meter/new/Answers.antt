@@ -1,6 +1,7 @@
 use Rattle.std.proofs.Common.{◌≡◌, [], map, ap, ap₂, ◌∙◌, sym, subst}
 use Rattle.cr_model.specs.Problems.{ProblemParts, QueryParts}
 use Rattle.cr_model.specs.Sound.{IsSound}
+use Rattle.cr_query.specs.Hits.{AreHits}
 use Rattle.cr_query.specs.Meters.{fitting_of, kinds_of, HasNumbers, IsCounted, HasFittings}
 use Rattle.cr_query.proofs.Metering.{kept}
 use Rattle.cr_query.proofs.meter.Meter.new.Goals as goal
@@ -27,4 +28,5 @@ invariant_of-result c =
       all.2,
       all.3,
       c.in_ok-leads.ensures.room,
+      subst (λ q. AreHits q c.in_ok-hits.hits) (sym same) c.in_ok-hits.ensures,
     )

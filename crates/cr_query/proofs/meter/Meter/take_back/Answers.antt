@@ -60,4 +60,4 @@ invariant_of-self c =
     let fitting = fittings_lowered c.joined_callings_multiply.ensures.rows p node c.args.step m.patterns.items c.self.invariant.0.sound c.args.from.now lead from (c.rows_of.ensures.of_problem p table) staged before in
     let same : length c.lower_rows.new.fittings ≡ length m.patterns.items = ap length patterns ∙ length-map m.patterns.items (rows_fewer c.args.from.now lead) in
     let all = kept p node c.take_back.new.self _ c.self.invariant.0.sound counted (written m.patterns.len m.patterns.items c.lower_rows.new.fittings m.patterns.ok.0 same ∙ patterns ∙ fitting) in
-    (c.self.invariant.0, all.0, all.1, c.self.invariant.3, all.2, all.3, omega (arith, c.take_back.ensures.room, c.self.invariant.6))
+    (c.self.invariant.0, all.0, all.1, c.self.invariant.3, all.2, all.3, omega (arith, c.take_back.ensures.room, c.self.invariant.6), c.self.invariant.7)

@@ -32,4 +32,4 @@ invariant_of-self c =
     let same : length c.lower_counted.new.fittings ≡ length m.patterns.items =
     as_many p node (child node c.args.step) c.lower_counted.new.fittings m.patterns.items fitting before in
     let all = kept p node c.take_back.new.self _ c.self.invariant.0.sound counted (written m.patterns.len m.patterns.items c.lower_counted.new.fittings m.patterns.ok.0 same ∙ fitting) in
-    (c.self.invariant.0, all.0, all.1, c.self.invariant.3, all.2, all.3, omega (arith, c.take_back.ensures.room, c.self.invariant.6))
+    (c.self.invariant.0, all.0, all.1, c.self.invariant.3, all.2, all.3, omega (arith, c.take_back.ensures.room, c.self.invariant.6), c.self.invariant.7)

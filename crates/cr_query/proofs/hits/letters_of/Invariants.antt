@@ -1,0 +1,6 @@
+use Rattle.std.proofs.Common.{◌≡◌, map, take}
+use Rattle.cr_query.specs.Hits.{letter_steps}
+use Rattle.cr_query.proofs.hits.letters_of.Given as goal
+
+abbrev pub invariant-loop-count : goal.invariant-loop-count
+invariant-loop-count l = l.sets.items ≡ map (letter_steps l.problem) (take l.count-index l.counts)
