@@ -2,6 +2,7 @@
 
 ghost use Rattle.std.specs.Prelude.{◌≡◌, [], length, IfOk};
 ghost use Rattle.cr_leads.specs.Tables.{lead_table};
+ghost use Rattle.cr_path.specs.Counted.{AsksNothing};
 ghost use Rattle.cr_path.specs.Numbers.{IsNumbered};
 
 use crate::keeping::is_numbered_touch_kept;
@@ -14,18 +15,19 @@ use cr_row::NoMemory;
 use std::alloc::Global;
 use std::marker::Model;
 
-/// A path that looks up the rows of its leads by their numbers, where each lead has so many.
+/// A path that looks up the rows of its leads by their numbers, of which each lead has `WIDTH`. `COUNTS` is 0 only where
+/// the query counts nothing.
 ///
 /// It is seen as the problem, the node and the step from which on the node's children are not tried yet.
 #[derive(Drop)]
-pub struct NumberPath<'a, const WIDTH: usize> {
+pub struct NumberPath<'a, const WIDTH: usize, const COUNTS: usize> {
     problem: &'a Problem,
     leads: &'a LeadTable,
     numbers: &'a NumberTable,
-    walk: NumberWalk<'a, WIDTH>,
+    walk: NumberWalk<'a, WIDTH, COUNTS>,
 }
 
-impl<'a, const WIDTH: usize> Model for NumberPath<'a, WIDTH> {
+impl<'a, const WIDTH: usize, const COUNTS: usize> Model for NumberPath<'a, WIDTH, COUNTS> {
     ghost use Rattle.cr_path.specs.Walks.{WalkParts};
     ghost use Rattle.cr_explore.specs.Searches.{IsNumberPath};
 
@@ -36,17 +38,18 @@ impl<'a, const WIDTH: usize> Model for NumberPath<'a, WIDTH> {
     ghost invariant = { λ w. IsNumberPath w.problem.now w.leads.now w.numbers.now w.walk };
 }
 
-impl<'a, const WIDTH: usize> NumberPath<'a, WIDTH> {
+impl<'a, const WIDTH: usize, const COUNTS: usize> NumberPath<'a, WIDTH, COUNTS> {
     /// The path at the node without steps, whose children are all tried. Err where no memory is left.
     pub fn new(
         alloc: Global,
         problem: &'a Problem,
         leads: &'a LeadTable,
         numbers: &'a NumberTable,
-    ) -> Result<NumberPath<'a, WIDTH>, NoMemory>
+    ) -> Result<NumberPath<'a, WIDTH, COUNTS>, NoMemory>
         requires leads { leads.now ≡ lead_table problem.now }
         requires numbers { IsNumbered problem.now numbers.now }
         requires width { numbers.now.width ≡ WIDTH }
+        requires counted { COUNTS ≡ 0 → AsksNothing problem.now.query }
         ensures { IfOk result (λ path. path ≡ record { problem = problem.now; node = []; next = length problem.now.leads }) }
     {
         let walk = NumberWalk::new(alloc, problem, leads, numbers)?;
@@ -59,7 +62,7 @@ impl<'a, const WIDTH: usize> NumberPath<'a, WIDTH> {
     }
 }
 
-impl<'a, const WIDTH: usize> Path for NumberPath<'a, WIDTH> {
+impl<'a, const WIDTH: usize, const COUNTS: usize> Path for NumberPath<'a, WIDTH, COUNTS> {
     ghost problem_of = { λ w. w.problem };
 
     ghost node_of = { λ w. w.node };
@@ -77,7 +80,7 @@ impl<'a, const WIDTH: usize> Path for NumberPath<'a, WIDTH> {
     }
 
     #[inline(never)]
-    fn gone_to(self, steps: &[u8]) -> NumberPath<'a, WIDTH> {
+    fn gone_to(self, steps: &[u8]) -> NumberPath<'a, WIDTH, COUNTS> {
         let mut path = self;
         path.walk.go_to(steps);
         path

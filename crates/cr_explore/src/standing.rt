@@ -90,7 +90,7 @@ impl<'a> Standing for Walk<'a> {
     }
 }
 
-impl<'a, const WIDTH: usize> Standing for NumberWalk<'a, WIDTH> {
+impl<'a, const WIDTH: usize, const COUNTS: usize> Standing for NumberWalk<'a, WIDTH, COUNTS> {
     ghost problem_of = { λ w. w.problem };
 
     ghost node_of = { λ w. w.node };

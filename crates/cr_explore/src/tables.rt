@@ -6,6 +6,7 @@ ghost use Rattle.cr_leads.specs.Tables.{lead_table};
 ghost use Rattle.cr_model.specs.Nodes.{IsValid};
 ghost use Rattle.cr_model.specs.Sizes.{most_rows};
 ghost use Rattle.cr_node.specs.Work.{IsDone, IsJob};
+ghost use Rattle.cr_path.specs.Counted.{AsksNothing};
 ghost use Rattle.cr_path.specs.Numbers.{IsNumbered};
 ghost use Rattle.cr_reach.specs.Tables.{reach_table};
 ghost use Rattle.cr_explore.specs.Turns.{after_turns};
@@ -18,7 +19,7 @@ use cr_false::FalseTable;
 use cr_leads::LeadTable;
 use cr_model::Problem;
 use cr_node::{Done, Node};
-use cr_path::NumberTable;
+use cr_path::{NumberTable, is_counted};
 use cr_reach::ReachTable;
 use cr_row::NoMemory;
 use std::alloc::Global;
@@ -198,8 +199,32 @@ fn turns_by_numbers<const WIDTH: usize>(
     ensures { IfOk result (λ done. record { found = done.found.items; rest = done.rest.items; used = done.used }
         ≡ after_turns problem.now most_rows job.now turns) }
 {
+    if is_counted(problem) {
+        turns_on_path::<WIDTH, 1>(alloc, problem, leads, numbers, job, turns)
+    } else {
+        turns_on_path::<WIDTH, 0>(alloc, problem, leads, numbers, job, turns)
+    }
+}
+
+// The same, where the query counts something, or nothing.
+fn turns_on_path<const WIDTH: usize, const COUNTS: usize>(
+    alloc: Global,
+    problem: &Problem,
+    leads: &LeadTable,
+    numbers: &NumberTable,
+    job: &[Node],
+    turns: u64,
+) -> Result<Explored, NoMemory>
+    requires leads { leads.now ≡ lead_table problem.now }
+    requires numbers { IsNumbered problem.now numbers.now }
+    requires width { numbers.now.width ≡ WIDTH }
+    requires counted { COUNTS ≡ 0 → AsksNothing problem.now.query }
+    requires job { All (IsValid problem.now) job.now }
+    ensures { IfOk result (λ done. record { found = done.found.items; rest = done.rest.items; used = done.used }
+        ≡ after_turns problem.now most_rows job.now turns) }
+{
     let _ = problem.stage();
-    let path: NumberPath<WIDTH> = NumberPath::new(alloc, problem, leads, numbers)?;
+    let path: NumberPath<WIDTH, COUNTS> = NumberPath::new(alloc, problem, leads, numbers)?;
     take_turns(alloc, path, job, turns)
 }
 

@@ -12,7 +12,7 @@ use cr_row::NoMemory;
 use std::alloc::Global;
 
 /// The touch of a node: its steps as often as the query has parts. Err where no memory is left.
-#[inline(never)]
+#[inline(always)]
 pub fn touch_of(alloc: Global, problem: &Problem, node: &[u8]) -> Result<Calling, NoMemory>
     requires { IsValid problem.now node.now }
     ensures { IfOk result (λ calling. calling ≡ touch_of problem.now node.now) }

@@ -5,7 +5,7 @@ use Rattle.std.proofs.lemmas.List.{get_or_append_left, get_or_push, get_or-take,
 use Rattle.cr_model.specs.Problems.{ProblemParts}
 use Rattle.cr_model.specs.Sizes.{child}
 use Rattle.cr_path.specs.declared.ends.LeadEnd.{LeadEnd}
-use Rattle.cr_path.specs.Ends.{last_of, IsEnd, AreEnds}
+use Rattle.cr_path.specs.Ends.{final_step, IsEnd, AreEnds}
 use Rattle.cr_path.specs.Numbers.{NumberParts}
 use Rattle.cr_path.specs.Sets.{AreUncut}
 
@@ -81,7 +81,7 @@ end_more p t node step after ends end are is uncut =
 
 -- one end less
 pub end_less : (p : ProblemParts) (t : NumberParts) (node : List ℕ) (next : ℕ) (ends : List LeadEnd) (end : LeadEnd) → 0 < length node → AreEnds p t node next (ends ++ end ∷ [])
-    → AreEnds p t (take (length node - 1) node) (last_of node + 1) ends
+    → AreEnds p t (take (length node - 1) node) (final_step node + 1) ends
 end_less p t node next ends end some are =
     let counted : length ends ≡ length node = omega (arith, are.number, length_push ends end) in
     let less : length (take (length node - 1) node) ≡ length node - 1 = length-take-le (length node - 1) node (omega arith) in
@@ -101,5 +101,5 @@ end_less p t node next ends end some are =
       left = λ d.
           let low : length node - 1 < length ends = omega (arith, counted, some) in
           let place : get_or ends (length node - 1) d ≡ get_or ends (length (take (length node - 1) node)) d = ap (λ n. get_or ends n d) (sym less) in
-          subst (λ (e : LeadEnd). AreUncut p (take (length node - 1) node) (last_of node + 1) e.left) (same (length node - 1) d low ∙ place) (are.tried (length node - 1) d (omega (arith, some)));
+          subst (λ (e : LeadEnd). AreUncut p (take (length node - 1) node) (final_step node + 1) e.left) (same (length node - 1) d low ∙ place) (are.tried (length node - 1) d (omega (arith, some)));
     }

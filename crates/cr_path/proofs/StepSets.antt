@@ -1,13 +1,12 @@
 -- Sets of steps, a bit for each.
-use Rattle.std.proofs.Common.{◌≡◌, ◌≢◌, ℕ, ◌+◌, ◌-◌, ◌*◌, ◌/◌, ◌%◌, ◌^◌, ◌<◌, ◌≤◌, Bool, true, false, max, nat_eq, sym, ap, subst, ◌∙◌, inl, inr, arith}
+use Rattle.std.proofs.Common.{◌≡◌, ◌≢◌, ℕ, ◌+◌, ◌-◌, ◌*◌, ◌/◌, ◌%◌, ◌^◌, ◌<◌, ◌≤◌, Bool, true, false, max, nat_eq, sym, ap, subst, ◌∙◌, arith}
 use Rattle.std.specs.Int.{bit_at, w32, trailing_zeros}
 use mir.Val.{bool_byte}
 use Rattle.std.specs.Int.RustNames.{bit_or}
-use Rattle.std.proofs.lemmas.Bool.{cases_lt}
-use Rattle.std.proofs.lemmas.Bool.Decides.{Decides-eqb}
-use Rattle.std.proofs.lemmas.Nat.{shr-shr, shr_le, shr_below, shl_whole, pow_pos}
+use Rattle.std.proofs.lemmas.Nat.{shr-shr, shr_below, shl_whole, pow_pos}
 use Rattle.std.proofs.lemmas.Nat.Bits.{bit_at-zero, bit_at_or, bit_at_set_same, bit_at_set_other, bit_at_cat_low, bit_at_cat_high, bit_at-trailing_zeros}
-use Rattle.cr_path.specs.Sets.{has_step, IsLeast}
+use Rattle.cr_query.specs.Sets.{has_step}
+use Rattle.cr_path.specs.Sets.{IsLeast}
 
 -- the set with nothing more
 nothing_more : (set step i : ℕ) → bit_at (bit_or set (0 * 2 ^ step % 2 ^ 32)) i ≡ bit_at set i

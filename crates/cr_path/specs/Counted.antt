@@ -1,5 +1,5 @@
 -- What is counted of a node, where the query asks for it.
-use Rattle.std.specs.Prelude.{◌≡◌, ℕ, ◌+◌, ◌<◌, ◌≤◌, not, nat_eq, List, [], length, Option, Some, None, IfSome}
+use Rattle.std.specs.Prelude.{◌≡◌, ℕ, ◌+◌, ◌<◌, not, nat_eq, List, [], length, Option, Some, None, IfSome}
 use Rattle.cr_model.specs.Problems.{ProblemParts, QueryParts}
 use Rattle.cr_model.specs.Callings.{head_of}
 use Rattle.cr_model.specs.Sound.{IsSound}
@@ -16,15 +16,19 @@ pub record AsksNothing (query : QueryParts) : Type 0 where
   pub patterns : query.patterns ≡ []
   pub «com» : query.com ≡ None
 
+-- nothing is counted
+pub record IsIdle (counting : Counting) : Type 0 where
+  pub meter : counting.meter ≡ None
+  pub hopeless : counting.hopeless ≡ None
+
 -- a meter stands at the node; or there is none, where nothing is asked
 abbrev pub IsMeterOf : ProblemParts → List ℕ → Option MeterParts → Type 0
 IsMeterOf p node None = AsksNothing p.query
 IsMeterOf p node (Some meter) = meter ≡ meter_from p node
 
 -- the steps with which a node has too many or too few leads
-pub record AreHopeless (p : ProblemParts) (node : List ℕ) (steps : ℕ) : Type 0 where
-  pub few : length p.leads ≤ 24
-  pub each : (step : ℕ) → step < length p.leads → has_step steps step ≡ is_hopeless_by_leads p (child node step)
+abbrev pub AreHopeless : ProblemParts → List ℕ → ℕ → Type 0
+AreHopeless p node steps = (step : ℕ) → step < length p.leads → step < 32 → has_step steps step ≡ is_hopeless_by_leads p (child node step)
 
 pub record IsCounted (p : ProblemParts) (node : List ℕ) (counting : Counting) : Type 0 where
   pub meter : IsMeterOf p node counting.meter

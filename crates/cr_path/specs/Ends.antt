@@ -7,8 +7,8 @@ use Rattle.cr_path.specs.Sets.{AreUncut}
 use Rattle.cr_path.specs.declared.ends.LeadEnd.{LeadEnd}
 
 -- the last step of a node
-abbrev pub last_of : List ℕ → ℕ
-last_of node = get_or node (length node - 1) 0
+abbrev pub final_step : List ℕ → ℕ
+final_step node = get_or node (length node - 1) 0
 
 -- the end of a calling: where the records of its head start, how many changes lead there, and whether its head comes home
 pub record IsEnd (p : ProblemParts) (t : NumberParts) (calling : List ℕ) (end : LeadEnd) : Type 0 where

@@ -1,14 +1,10 @@
 -- Sets of steps, a bit for each.
-use Rattle.std.specs.Prelude.{◌≡◌, ℕ, ◌<◌, ◌≤◌, Bool, true, false, not, nat_eq, List, length}
-use Rattle.std.specs.Int.{bit_at}
+use Rattle.std.specs.Prelude.{◌≡◌, ℕ, ◌<◌, ◌≤◌, true, false, not, List, length}
 use Rattle.cr_model.specs.Problems.{ProblemParts}
 use Rattle.cr_model.specs.Dead.{is_turned_back}
 use Rattle.cr_model.specs.Sizes.{most_rows, child}
+use Rattle.cr_query.specs.Sets.{has_step}
 use Rattle.cr_path.specs.Living.{is_cut}
-
--- a set has a step
-abbrev pub has_step : ℕ → ℕ → Bool
-has_step set step = nat_eq (bit_at set step) 1
 
 -- the step is the least one of the set
 pub record IsLeast (set step : ℕ) : Type 0 where

@@ -6,18 +6,21 @@ ghost use Rattle.cr_model.specs.Problems.{ProblemParts};
 ghost use Rattle.cr_model.specs.Sizes.{child};
 ghost use Rattle.cr_query.specs.Meeting.{MeetsCounts, MeetsMethodCounts};
 ghost use Rattle.cr_query.specs.Meters.{parent, meter_from, is_hopeless_by_leads};
-ghost use Rattle.cr_path.specs.Counted.{AsksNothing, IsCounted, AreHopeless, CanCount};
+ghost use Rattle.cr_path.specs.Counted.{AsksNothing, IsIdle, IsCounted, AreHopeless, CanCount};
 ghost use Rattle.cr_path.specs.Living.{is_hopeless};
-ghost use Rattle.cr_path.specs.Sets.{has_step};
 
 use crate::fits::Fits;
+use crate::sets::no_steps;
 use crate::table::NumberTable;
 use cr_model::{Problem, Query};
 use cr_query::Meter;
 use cr_row::NoMemory;
 use std::alloc::Global;
 
-/// What is counted of a node. Where the query asks for nothing that is counted, each call is next to nothing.
+/// What is counted of a node.
+///
+/// What each turn asks is told as a constant whether anything is counted: `COUNTS` is 0 where nothing is, and the calls
+/// are no code then.
 #[derive(Drop)]
 pub struct Counting {
     // None where nothing is asked.
@@ -33,7 +36,8 @@ pub struct Counting {
 impl Counting {
     /// What is counted of the node of no steps. All memory is taken here. Err where no memory is left.
     pub fn new(alloc: Global, problem: &Problem) -> Result<Counting, NoMemory>
-        ensures { IfOk result (λ counting. IsCounted problem.now [] counting) }
+        ensures counted { IfOk result (λ counting. IsCounted problem.now [] counting) }
+        ensures idle { IfOk result (λ counting. AsksNothing problem.now.query → IsIdle counting) }
     {
         let query = problem.query();
         let patterns = has_patterns(query);
@@ -56,11 +60,16 @@ impl Counting {
 
     /// Goes to the node with this step more, whose lead is the one at this place.
     #[inline(always)]
-    pub fn add_lead(&mut self, numbers: &NumberTable, place: usize, step: u8)
+    pub fn add_lead<const COUNTS: usize>(&mut self, numbers: &NumberTable, place: usize, step: u8)
+        requires idle { COUNTS ≡ 0 → IsIdle self.old }
         requires few { IfSome self.old.meter (λ meter. length meter.node < 1024) }
         requires lead { IfSome self.old.meter (λ meter. CanCount numbers.now place step meter.node meter) }
-        ensures { (p : ProblemParts) (node : List ℕ) → IsCounted p node self.old → IsCounted p (child node step) self.new }
+        ensures counted { (p : ProblemParts) (node : List ℕ) → IsCounted p node self.old → IsCounted p (child node step) self.new }
+        ensures idle { COUNTS ≡ 0 → IsIdle self.new }
     {
+        if COUNTS == 0 {
+            return;
+        }
         if let Some(meter) = &mut self.meter {
             self.hopeless = Some(count_lead(meter, &mut self.fits, numbers, place, step));
         }
@@ -68,39 +77,48 @@ impl Counting {
 
     /// Goes back to the node without its last step, which is this one and whose lead is the one at this place.
     #[inline(always)]
-    pub fn take_back(&mut self, numbers: &NumberTable, place: usize, step: u8)
+    pub fn take_back<const COUNTS: usize>(&mut self, numbers: &NumberTable, place: usize, step: u8)
+        requires idle { COUNTS ≡ 0 → IsIdle self.old }
         requires last { IfSome self.old.meter (λ meter. meter.node ≡ child (parent meter.node) step) }
         requires lead { IfSome self.old.meter (λ meter. CanCount numbers.now place step (parent meter.node) meter) }
-        ensures { (p : ProblemParts) (node : List ℕ) → IsCounted p node self.old → IsCounted p (parent node) self.new }
+        ensures counted { (p : ProblemParts) (node : List ℕ) → IsCounted p node self.old → IsCounted p (parent node) self.new }
+        ensures idle { COUNTS ≡ 0 → IsIdle self.new }
     {
+        if COUNTS == 0 {
+            return;
+        }
         if let Some(meter) = &mut self.meter {
             take_back_lead(meter, &mut self.fits, numbers, place, step);
             self.hopeless = None;
         }
     }
 
-    /// Whether the node with this step more has too many or too few leads for the query.
+    /// The steps with which the node has too many or too few leads for the query, a bit for each.
     #[inline(always)]
-    pub fn is_hopeless_with(&self, step: u8) -> bool
-        requires { IfSome self.now.meter (λ meter. step < length meter.problem.leads) }
-        ensures { (p : ProblemParts) (node : List ℕ) → IsCounted p node self.now → result ≡ is_hopeless_by_leads p (child node step) }
+    pub fn hopeless_steps<const COUNTS: usize>(&self) -> u32
+        requires { COUNTS ≡ 0 → IsIdle self.now }
+        ensures { (p : ProblemParts) (node : List ℕ) → IsCounted p node self.now → AreHopeless p node result }
     {
+        if COUNTS == 0 {
+            return no_steps();
+        }
         match &self.meter {
             Some(meter) => match self.hopeless {
-                Some(steps) => has_step(steps, step),
-                None => is_hopeless_by_leads(meter, step),
+                Some(steps) => steps,
+                None => hopeless_steps(meter),
             },
-            None => false,
+            None => no_steps(),
         }
     }
 
     /// Whether the node, which is not hopeless by its leads, has too many or too few rows that fit a pattern.
     #[inline(always)]
-    pub fn is_hopeless(&self) -> bool
+    pub fn is_hopeless<const COUNTS: usize>(&self) -> bool
+        requires { COUNTS ≡ 0 → IsIdle self.now }
         ensures { (p : ProblemParts) (node : List ℕ) → IsCounted p node self.now → is_hopeless_by_leads p node ≡ false
             → result ≡ is_hopeless p node }
     {
-        if !self.patterns {
+        if COUNTS == 0 || !self.patterns {
             return false;
         }
         match &self.meter {
@@ -122,12 +140,9 @@ impl Counting {
     }
 }
 
-// What a meter does stays a call in these four, so that going on, going back and judging children are short where
-// nothing is counted.
-
 // Tells a meter of a step more, whose lead is the one at this place, and gives the steps with which the node after it
 // has too many or too few leads.
-#[inline(never)]
+#[inline(always)]
 fn count_lead(
     meter: &mut Meter,
     fits: &mut Fits,
@@ -146,7 +161,7 @@ fn count_lead(
 }
 
 // Takes the last step of a meter back, which is this one and whose lead is the one at this place.
-#[inline(never)]
+#[inline(always)]
 fn take_back_lead(meter: &mut Meter, fits: &mut Fits, numbers: &NumberTable, place: usize, step: u8)
     requires last { meter.old.node ≡ child (parent meter.old.node) step }
     requires lead { CanCount numbers.now place step (parent meter.old.node) meter.old }
@@ -156,26 +171,32 @@ fn take_back_lead(meter: &mut Meter, fits: &mut Fits, numbers: &NumberTable, pla
     meter.take_back_counted(step, fits.numbers());
 }
 
-// Whether the node of a meter with this step more has too many or too few leads.
-#[inline(never)]
-fn is_hopeless_by_leads(meter: &Meter, step: u8) -> bool
-    requires { step < length meter.now.problem.leads }
-    ensures { result ≡ is_hopeless_by_leads meter.now.problem (child meter.now.node step) }
+// The steps with which the node of a meter has too many or too few leads.
+#[inline(always)]
+fn hopeless_steps(meter: &Meter) -> u32
+    ensures { AreHopeless meter.now.problem meter.now.node result }
 {
-    meter.is_hopeless_with(step)
+    meter.hopeless_steps()
 }
 
 // Whether the node of a meter has too many or too few leads, or rows that fit a pattern.
-#[inline(never)]
+#[inline(always)]
 fn is_hopeless_now(meter: &Meter) -> bool
     ensures { is_hopeless_by_leads meter.now.problem meter.now.node ≡ false → result ≡ is_hopeless meter.now.problem meter.now.node }
 {
     meter.is_hopeless_by_rows()
 }
 
+/// Whether the query of a problem has counts, patterns or limits on changes of method.
+pub fn is_counted(problem: &Problem) -> bool
+    ensures { result ≡ false ↔ AsksNothing problem.now.query }
+{
+    !asks_nothing(problem.query())
+}
+
 // Whether the query has no counts, no patterns and no limits on changes of method.
 fn asks_nothing(query: &Query) -> bool
-    ensures { result ≡ true → AsksNothing query.now }
+    ensures { IsTrue result ↔ AsksNothing query.now }
 {
     query.counts.is_empty()
         && query.method_counts.is_empty()
@@ -188,12 +209,4 @@ fn has_patterns(query: &Query) -> bool
     ensures { result ≡ not (nat_eq (length query.now.patterns) 0) }
 {
     !query.patterns.is_empty()
-}
-
-// Whether a set has a step.
-#[inline(always)]
-fn has_step(set: u32, step: u8) -> bool
-    ensures { step < 32 → result ≡ has_step set step }
-{
-    (set >> (step & 31)) & 1 == 1
 }

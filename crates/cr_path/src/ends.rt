@@ -4,7 +4,7 @@ ghost use Rattle.std.specs.Prelude.{◌≡◌, ◌+◌, ◌-◌, ◌<◌, ◌≤
 ghost use Rattle.cr_model.specs.Problems.{ProblemParts};
 ghost use Rattle.cr_model.specs.Sizes.{child};
 ghost use Rattle.cr_path.specs.Numbers.{NumberParts};
-ghost use Rattle.cr_path.specs.Ends.{last_of, IsEnd, AreEnds};
+ghost use Rattle.cr_path.specs.Ends.{final_step, IsEnd, AreEnds};
 ghost use Rattle.cr_path.specs.Sets.{AreUncut};
 
 use cr_row::NoMemory;
@@ -99,7 +99,7 @@ impl Ends {
     pub fn pop(&mut self)
         requires { 1 < length self.old }
         ensures { (p : ProblemParts) (t : NumberParts) (node : List ℕ) (next : ℕ) → 0 < length node → AreEnds p t node next self.old
-            → AreEnds p t (take (length node - 1) node) (last_of node + 1) self.new }
+            → AreEnds p t (take (length node - 1) node) (final_step node + 1) self.new }
     {
         self.count -= 1;
         let end = self.ends[self.count];

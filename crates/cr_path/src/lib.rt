@@ -26,6 +26,7 @@ mod telling;
 mod turning;
 mod walk;
 
+pub use counting::is_counted;
 pub use laws::{
     a_row_in_common_is_told, leads_die_at_the_edges, plain_bob_minimus_has_its_numbers,
 };

@@ -13,7 +13,8 @@ ghost use Rattle.cr_model.specs.Turning.{IsLeastRotation};
 ghost use Rattle.cr_leads.specs.Tables.{lead_table};
 ghost use Rattle.cr_query.specs.Meeting.{MeetsCounts, MeetsMethodCounts};
 ghost use Rattle.cr_query.specs.Meters.{is_hopeless_by_leads};
-ghost use Rattle.cr_path.specs.Ends.{last_of, IsEnd};
+ghost use Rattle.cr_path.specs.Counted.{AsksNothing, AreHopeless};
+ghost use Rattle.cr_path.specs.Ends.{final_step, IsEnd};
 ghost use Rattle.cr_path.specs.Living.{is_clean, is_cut, is_hopeless, is_live, IsFirst, IsFirstUncut};
 ghost use Rattle.cr_path.specs.Marks.{IsLead};
 ghost use Rattle.cr_path.specs.Numbers.{numbers_of, IsNumbered};
@@ -24,7 +25,7 @@ use crate::counting::Counting;
 use crate::ends::{Ends, LeadEnd};
 use crate::marks::Marks;
 use crate::parts::{bring_new_rows, parts_to_try};
-use crate::sets::{least, no_steps, with_step, without_below, without_step};
+use crate::sets::{has_step, least, no_steps, with_step, without_below, without_step};
 use crate::table::{LeadRecord, NumberTable};
 use cr_leads::LeadTable;
 use cr_model::Problem;
@@ -35,11 +36,12 @@ use cr_row::{NoMemory, Row};
 use std::alloc::Global;
 use std::marker::Model;
 
-/// The node of a walk, with what is known of it.
+/// The node of a walk, with what is known of it. Each lead has `WIDTH` telling rows, and `COUNTS` is 0 only where the
+/// query counts nothing.
 ///
 /// It is seen as the problem, the numbers, the node and the step from which on the node's children are not tried yet.
 #[derive(Drop)]
-pub struct Path<'a, const WIDTH: usize> {
+pub struct Path<'a, const WIDTH: usize, const COUNTS: usize> {
     problem: &'a Problem,
     leads: &'a LeadTable,
     numbers: &'a NumberTable,
@@ -57,18 +59,19 @@ pub struct Path<'a, const WIDTH: usize> {
     turn_free: bool,
 }
 
-impl<'a, const WIDTH: usize> Model for Path<'a, WIDTH> {
+impl<'a, const WIDTH: usize, const COUNTS: usize> Model for Path<'a, WIDTH, COUNTS> {
     ghost use Rattle.std.specs.Prelude.{◌≡◌};
+    ghost use Rattle.cr_path.specs.Counted.{IsIdle};
     ghost use Rattle.cr_path.specs.Walks.{PathParts, path_from, IsWalk};
 
     ghost Value = { PathParts };
 
     ghost view = { λ w. path_from w.problem.now w.numbers.now w.steps w.next };
 
-    ghost invariant = { λ w. IsWalk w.problem.now w.leads.now w.numbers.now w.steps w.next w.ends w.marks.marks w.marks.fresh w.counting.value w.turn_free × (w.numbers.now.width ≡ WIDTH) };
+    ghost invariant = { λ w. IsWalk w.problem.now w.leads.now w.numbers.now w.steps w.next w.ends w.marks.marks w.marks.fresh w.counting.value w.turn_free × (w.numbers.now.width ≡ WIDTH) × (COUNTS ≡ 0 → IsIdle w.counting.value) };
 }
 
-impl<'a, const WIDTH: usize> Path<'a, WIDTH> {
+impl<'a, const WIDTH: usize, const COUNTS: usize> Path<'a, WIDTH, COUNTS> {
     /// The path at the node of no steps, whose children are all tried. All memory is taken here. Err where no memory is
     /// left.
     pub fn new(
@@ -76,10 +79,11 @@ impl<'a, const WIDTH: usize> Path<'a, WIDTH> {
         problem: &'a Problem,
         leads: &'a LeadTable,
         numbers: &'a NumberTable,
-    ) -> Result<Path<'a, WIDTH>, NoMemory>
+    ) -> Result<Path<'a, WIDTH, COUNTS>, NoMemory>
         requires leads { leads.now ≡ lead_table problem.now }
         requires numbers { IsNumbered problem.now numbers.now }
         requires width { numbers.now.width ≡ WIDTH }
+        requires counted { COUNTS ≡ 0 → AsksNothing problem.now.query }
         ensures { IfOk result (λ path. path ≡ path_from problem.now numbers.now [] (length problem.now.leads)) }
     {
         let steps = Period::new(alloc)?;
@@ -293,9 +297,10 @@ impl<'a, const WIDTH: usize> Path<'a, WIDTH> {
         ensures { AreUncut self.now.problem self.now.node 0 result }
     {
         // Also those that turn back are looked at, which takes less time than a loop whose length is not foreseen.
+        let hopeless = self.hopeless_steps();
         let mut uncut = no_steps();
         for step in 0..self.step_count() {
-            uncut = with_step(uncut, step, !self.is_cut(end, step));
+            uncut = with_step(uncut, step, !self.is_cut(end, step, hopeless));
         }
         without_below(uncut, self.first_straight())
     }
@@ -360,12 +365,22 @@ impl<'a, const WIDTH: usize> Path<'a, WIDTH> {
             .numbers_at::<WIDTH>(self.numbers.place(end.base, step))
     }
 
-    // Whether the child of a clean node by a step is dead, if it does not turn back, but for rows that fit patterns.
+    // The steps with which the node has too many or too few leads for the query.
     #[inline(always)]
-    fn is_cut(&self, end: LeadEnd, step: u8) -> bool
+    fn hopeless_steps(&self) -> u32
+        ensures { AreHopeless self.now.problem self.now.node result }
+    {
+        self.counting.hopeless_steps::<COUNTS>()
+    }
+
+    // Whether the child of a clean node by a step is dead, if it does not turn back, but for rows that fit patterns. The
+    // steps with which it has too many or too few leads are known.
+    #[inline(always)]
+    fn is_cut(&self, end: LeadEnd, step: u8, hopeless: u32) -> bool
         requires clean { is_clean self.now.problem self.now.node ≡ true }
         requires end { IsEnd self.now.problem self.now.numbers self.now.node end }
         requires step { step < length self.now.problem.leads }
+        requires hopeless { AreHopeless self.now.problem self.now.node hopeless }
         ensures { is_turned_back self.now.problem (child self.now.node step) ≡ false
             → result ≡ is_cut self.now.problem most_rows (child self.now.node step) }
     {
@@ -373,8 +388,7 @@ impl<'a, const WIDTH: usize> Path<'a, WIDTH> {
         let lead = self.lead_after(end, step);
         let is_late = end.rung >= u32::from(lead.limit);
         let is_again = self.marks.has_some(self.numbers_after(end, step));
-        let is_hopeless = self.counting.is_hopeless_with(step);
-        is_late | is_again | is_hopeless
+        is_late | is_again | has_step(hopeless, step)
     }
 
     // Goes to the child by a step, the first one that is not cut, if it is not dead, and says so. The step is tried then.
@@ -404,7 +418,7 @@ impl<'a, const WIDTH: usize> Path<'a, WIDTH> {
         requires { is_hopeless_by_leads self.now.problem self.now.node ≡ false }
         ensures { result ≡ is_hopeless self.now.problem self.now.node }
     {
-        self.counting.is_hopeless()
+        self.counting.is_hopeless::<COUNTS>()
     }
 
     // Goes to the child by a step, where that may have a row twice.
@@ -460,14 +474,14 @@ impl<'a, const WIDTH: usize> Path<'a, WIDTH> {
         );
         self.steps.push(step);
         self.next = self.leads.count();
-        self.counting.add_lead(self.numbers, place, step);
+        self.counting.add_lead::<COUNTS>(self.numbers, place, step);
     }
 
     // Goes back to the node without the last step, whose children after that step are not tried yet.
     #[inline(always)]
     fn back(&mut self)
         requires { 0 < length self.old.node }
-        ensures { self.new ≡ path_from self.old.problem self.old.numbers (parent self.old.node) (last_of self.old.node + 1) }
+        ensures { self.new ≡ path_from self.old.problem self.old.numbers (parent self.old.node) (final_step self.old.node + 1) }
     {
         let number = self.steps.steps().len();
         let step = self.steps.steps()[number - 1];
@@ -478,7 +492,7 @@ impl<'a, const WIDTH: usize> Path<'a, WIDTH> {
             .take_back(number, self.numbers.numbers_at::<WIDTH>(place));
         self.steps.pop();
         self.next = step + 1;
-        self.counting.take_back(self.numbers, place, step);
+        self.counting.take_back::<COUNTS>(self.numbers, place, step);
     }
 
     // Goes back to so many steps.

@@ -1,7 +1,8 @@
 //! Sets of steps, a bit for each.
 
 ghost use Rattle.std.specs.Prelude.{◌≡◌, ◌≢◌, ◌<◌, ◌≤◌, ℕ, true, false, IfNone, IfSome};
-ghost use Rattle.cr_path.specs.Sets.{has_step, IsLeast};
+ghost use Rattle.cr_query.specs.Sets.{has_step};
+ghost use Rattle.cr_path.specs.Sets.{IsLeast};
 
 /// The set without steps.
 #[inline(always)]
@@ -52,4 +53,12 @@ pub fn least(set: u32) -> Option<u8>
         return None;
     }
     Some(set.trailing_zeros() as u8)
+}
+
+/// Whether a set has a step.
+#[inline(always)]
+pub fn has_step(set: u32, step: u8) -> bool
+    ensures { step < 32 → result ≡ has_step set step }
+{
+    (set >> (step & 31)) & 1 == 1
 }

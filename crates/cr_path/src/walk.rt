@@ -12,6 +12,7 @@ ghost use Rattle.cr_model.specs.Sizes.{most_rows, child};
 ghost use Rattle.cr_model.specs.Turning.{IsLeastRotation};
 ghost use Rattle.cr_leads.specs.Tables.{lead_table};
 ghost use Rattle.cr_query.specs.Meeting.{MeetsCounts, MeetsMethodCounts};
+ghost use Rattle.cr_path.specs.Counted.{AsksNothing};
 ghost use Rattle.cr_path.specs.Numbers.{IsNumbered};
 ghost use Rattle.cr_path.specs.Walks.{walk_from, room_of};
 
@@ -23,17 +24,18 @@ use cr_row::{NoMemory, Row};
 use std::alloc::Global;
 use std::marker::Model;
 
-/// A walk from node to node of a problem whose lead heads and rows are numbered.
+/// A walk from node to node of a problem whose lead heads and rows are numbered. Each lead has `WIDTH` telling rows, and
+/// `COUNTS` is 0 only where the query counts nothing, which `is_counted` tells.
 ///
 /// It is seen as the problem, the node and the step from which on the node's children are not tried yet. All memory is
 /// taken in `new`, and nothing is rung. What it tells of its node takes a time that does not grow with the node, but for
 /// `parts_differ`.
 #[derive(Drop)]
-pub struct NumberWalk<'a, const WIDTH: usize> {
-    path: Path<'a, WIDTH>,
+pub struct NumberWalk<'a, const WIDTH: usize, const COUNTS: usize> {
+    path: Path<'a, WIDTH, COUNTS>,
 }
 
-impl<'a, const WIDTH: usize> Model for NumberWalk<'a, WIDTH> {
+impl<'a, const WIDTH: usize, const COUNTS: usize> Model for NumberWalk<'a, WIDTH, COUNTS> {
     ghost use Rattle.cr_path.specs.Walks.{WalkParts, walk_from};
 
     ghost Value = { WalkParts };
@@ -41,17 +43,18 @@ impl<'a, const WIDTH: usize> Model for NumberWalk<'a, WIDTH> {
     ghost view = { λ w. walk_from w.path.problem w.path.node w.path.next };
 }
 
-impl<'a, const WIDTH: usize> NumberWalk<'a, WIDTH> {
+impl<'a, const WIDTH: usize, const COUNTS: usize> NumberWalk<'a, WIDTH, COUNTS> {
     /// The walk at the node of no steps, whose children are all tried. Err where no memory is left.
     pub fn new(
         alloc: Global,
         problem: &'a Problem,
         leads: &'a LeadTable,
         numbers: &'a NumberTable,
-    ) -> Result<NumberWalk<'a, WIDTH>, NoMemory>
+    ) -> Result<NumberWalk<'a, WIDTH, COUNTS>, NoMemory>
         requires leads { leads.now ≡ lead_table problem.now }
         requires numbers { IsNumbered problem.now numbers.now }
         requires width { numbers.now.width ≡ WIDTH }
+        requires counted { COUNTS ≡ 0 → AsksNothing problem.now.query }
         ensures { IfOk result (λ walk. walk ≡ record { problem = problem.now; node = []; next = length problem.now.leads }) }
     {
         let path = Path::new(alloc, problem, leads, numbers)?;

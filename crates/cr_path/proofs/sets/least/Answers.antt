@@ -1,4 +1,4 @@
-use Rattle.std.proofs.Common.{◌<◌, arith}
+use Rattle.std.proofs.Common.{arith}
 use Rattle.cr_path.proofs.StepSets.{none_of_zero, least_of}
 use Rattle.cr_path.proofs.sets.least.Goals as goal
 

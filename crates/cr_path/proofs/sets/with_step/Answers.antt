@@ -1,6 +1,6 @@
 use Rattle.std.proofs.Common.{ℕ, ◌*◌, ◌%◌, ◌^◌, ◌∙◌, ap}
 use Rattle.std.specs.Int.RustNames.{bit_or}
-use Rattle.cr_path.specs.Sets.{has_step}
+use Rattle.cr_query.specs.Sets.{has_step}
 use Rattle.cr_path.proofs.StepSets.{step_is, others_stay}
 use Rattle.cr_path.proofs.sets.with_step.Goals as goal
 

@@ -5,7 +5,7 @@ use Rattle.cr_model.specs.Callings.{head_of}
 use Rattle.cr_path.specs.declared.table.LeadRecord.{LeadRecord}
 use Rattle.cr_path.specs.Numbers.{numbers_of}
 use Rattle.cr_path.specs.Counted.{IsCounted, CanCount}
-use Rattle.cr_path.specs.Ends.{last_of, AreEnds}
+use Rattle.cr_path.specs.Ends.{final_step, AreEnds}
 use Rattle.cr_path.specs.Walks.{PathParts, IsWalk, parent}
 use Rattle.cr_path.proofs.Children.{last_step}
 use Rattle.cr_path.proofs.Places.{some_head}
@@ -20,7 +20,7 @@ place-place-requires-clause-base g c =
     let t = w.numbers.now in
     let is = c.self.invariant.0 in
     let some : 0 < length w.steps = subst (λ (v : PathParts). 0 < length v.node) (sym c.self.view_is) c.requires in
-    let at_end = c.last-base.ensures.is p t (parent w.steps) (last_of w.steps + 1) (c.pop.ensures p t w.steps w.next some is.ends) in
+    let at_end = c.last-base.ensures.is p t (parent w.steps) (final_step w.steps + 1) (c.pop.ensures p t w.steps w.next some is.ends) in
     some_head t (head_of p (parent w.steps)) c.last-base.result.base at_end.from
 
 pub place-place-requires-clause-step : goal.place-place-requires-clause-step
@@ -63,7 +63,7 @@ take_back-requires-2-clause-lead g c =
     let t = w.numbers.now in
     let is = c.self.invariant.0 in
     let some : 0 < length w.steps = subst (λ (v : PathParts). 0 < length v.node) (sym c.self.view_is) c.requires in
-    let at_end = c.last-base.ensures.is p t (parent w.steps) (last_of w.steps + 1) (c.pop.ensures p t w.steps w.next some is.ends) in
+    let at_end = c.last-base.ensures.is p t (parent w.steps) (final_step w.steps + 1) (c.pop.ensures p t w.steps w.next some is.ends) in
     let index : ℕ = length c.steps-number.result.now - 1 in
     let step : ℕ = get_or c.steps.result.now index 0 in
     let last : index ≡ length w.steps - 1 = ap (λ (word : List ℕ). length word - 1) c.steps-number.ensures.is in
@@ -79,7 +79,7 @@ invariant_of-self g c =
     let t = w.numbers.now in
     let is = c.self.invariant.0 in
     let some : 0 < length w.steps = subst (λ (v : PathParts). 0 < length v.node) (sym c.self.view_is) c.requires in
-    let at_end = c.last-base.ensures.is p t (parent w.steps) (last_of w.steps + 1) (c.pop.ensures p t w.steps w.next some is.ends) in
+    let at_end = c.last-base.ensures.is p t (parent w.steps) (final_step w.steps + 1) (c.pop.ensures p t w.steps w.next some is.ends) in
     let index : ℕ = length c.steps-number.result.now - 1 in
     let step : ℕ = get_or c.steps.result.now index 0 in
     let last : index ≡ length w.steps - 1 = ap (λ (word : List ℕ). length word - 1) c.steps-number.ensures.is in
@@ -91,10 +91,11 @@ invariant_of-self g c =
     let marked = marked_back p w.leads.now t w.steps w.next w.ends w.marks.marks w.marks.fresh w.counting.value w.turn_free is (parent w.steps) step (c.last-base.result.base + step) (length c.steps-number.result.now) lead c.numbers_at.result.now c.take_back.new.self whole
     (ap length c.steps-number.ensures.is) known (c.numbers_at.ensures ∙ ap (numbers_of t) c.place-place.ensures.is) c.take_back.ensures.long c.take_back.ensures.taken c.take_back.ensures.same in
     let inside = last_known p w.leads.now t w.steps w.next w.ends w.marks.marks w.marks.fresh w.counting.value w.turn_free is step index some last step_is in
-    let at_last : step ≡ last_of w.steps = step_is ∙ ap (λ n. get_or w.steps n 0) last in (
+    let at_last : step ≡ final_step w.steps = step_is ∙ ap (λ n. get_or w.steps n 0) last in (
       subst (λ (n : List ℕ). IsWalk p w.leads.now t n (step + 1) c.pop.new.self c.take_back.new.self.marks c.take_back.new.self.fresh c.take_back-2.new.self w.turn_free) (sym c.pop-2.ensures)
           (returned p w.leads.now t w.steps w.next w.ends w.marks.marks w.marks.fresh w.counting.value w.turn_free is (step + 1) c.pop.new.self c.take_back.new.self.marks c.take_back.new.self.fresh c.take_back-2.new.self (omega (arith, inside))
           (subst (λ n. AreEnds p t (parent w.steps) (n + 1) c.pop.new.self) (sym at_last) (c.pop.ensures p t w.steps w.next some is.ends)) marked
-          (c.take_back-2.ensures p w.steps (subst (IsCounted p w.steps) (sym c.deref_mut.ensures.value) is.counted))),
+          (c.take_back-2.ensures.counted p w.steps (subst (IsCounted p w.steps) (sym c.deref_mut.ensures.value) is.counted))),
       c.self.invariant.1,
+      c.take_back-2.ensures.idle,
     )

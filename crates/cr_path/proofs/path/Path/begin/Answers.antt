@@ -12,4 +12,5 @@ invariant_of-self g c =
       stayed p w.leads.now t w.steps w.next w.ends w.marks.marks w.marks.fresh w.counting.value w.turn_free c.self.invariant.0 0 c.keep_left.new.self (omega arith)
           (c.keep_left.ensures p t w.steps w.next 0 c.self.invariant.0.ends (subst (λ (v : PathParts). AreUncut v.problem v.node 0 c.find_uncut-uncut.result) (sym c.self.view_is) c.find_uncut-uncut.ensures)),
       c.self.invariant.1,
+      c.self.invariant.2,
     )

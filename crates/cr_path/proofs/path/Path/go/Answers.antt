@@ -88,6 +88,7 @@ invariant_of-self g c =
           (subst (λ (more : ℕ). IsEnd p t (child w.steps c.args.step) (record { base = lead.next; rung = end.rung + more; left = c.no_steps.result; home = c.from-2.result })) (sym c.from.ensures) (next_end p t w.steps c.args.step end lead c.no_steps.result c.from-2.result at_end known c.from-2.ensures)) after)
           (marked_on p w.leads.now t w.steps w.next w.ends w.marks.marks w.marks.fresh w.counting.value w.turn_free is c.args.step (end.base + c.args.step) lead c.numbers_at.result.now c.args.is_new c.add.new.self known numbers_are new
           c.add.ensures.long c.add.ensures.added c.add.ensures.same)
-          (c.add_lead.ensures p w.steps (subst (IsCounted p w.steps) (sym c.deref_mut.ensures.value) is.counted))),
+          (c.add_lead.ensures.counted p w.steps (subst (IsCounted p w.steps) (sym c.deref_mut.ensures.value) is.counted))),
       c.self.invariant.1,
+      c.add_lead.ensures.idle,
     )

@@ -1,4 +1,4 @@
-use Rattle.std.proofs.Common.{◌≡◌, ◌+◌, ◌≤◌, ◌<◌, ◌∙◌, true, false, length, refl, sym, ap, subst, arith}
+use Rattle.std.proofs.Common.{◌≡◌, ◌+◌, ◌≤◌, ◌∙◌, true, false, length, refl, sym, ap, subst, arith}
 use Rattle.cr_model.specs.Sizes.{most_rows, child}
 use Rattle.cr_path.specs.Living.{is_live, AreCut, IsFirst}
 use Rattle.cr_path.specs.Walks.{PathParts, path_from}

@@ -1,4 +1,4 @@
-use Rattle.std.proofs.Common.{rules, ◌≡◌, ◌+◌, ◌<◌, length, sym, ap, subst, arith}
+use Rattle.std.proofs.Common.{rules, ◌≡◌, ◌+◌, sym, subst, arith}
 use Rattle.cr_model.specs.Nodes.{IsValid}
 use Rattle.cr_model.specs.Sizes.{child}
 use Rattle.cr_path.specs.Sets.{AreUncut}

@@ -2,7 +2,7 @@ use Rattle.std.proofs.Common.{rules, ◌≡◌, ◌+◌, ◌<◌, ◌∙◌, fal
 use Rattle.cr_model.specs.Nodes.{IsValid}
 use Rattle.cr_model.specs.Sizes.{most_rows, child}
 use Rattle.cr_query.specs.Meters.{is_hopeless_by_leads}
-use Rattle.cr_path.specs.Living.{is_cut, is_hopeless, IsFirst}
+use Rattle.cr_path.specs.Living.{is_hopeless, IsFirst}
 use Rattle.cr_path.specs.Sets.{AreUncut}
 use Rattle.cr_path.specs.Walks.{PathParts}
 use Rattle.cr_path.proofs.Living.{uncut_differs, uncut_hopes, uncut_valid, uncut_few, uncut_lives}

@@ -1,13 +1,14 @@
-use Rattle.std.proofs.Common.{◌≡◌, ◌+◌, ◌<◌, ◌∙◌, nat_le, length, true, false, sym, ap, subst, ℕ}
+use Rattle.std.proofs.Common.{◌≡◌, ◌+◌, ◌<◌, ◌∙◌, nat_le, length, true, false, sym, ap, subst, arith, ℕ}
 use Rattle.cr_model.specs.Dead.{is_turned_back}
 use Rattle.cr_model.specs.Sizes.{most_rows, child}
 use Rattle.cr_path.specs.Ends.{IsEnd}
 use Rattle.cr_path.specs.Living.{is_clean, is_cut}
 use Rattle.cr_path.specs.Marks.{IsLead}
 use Rattle.cr_path.specs.Numbers.{numbers_of}
-use Rattle.cr_path.specs.Counted.{IsCounted}
+use Rattle.cr_path.specs.Counted.{AreHopeless}
 use Rattle.cr_path.specs.Walks.{PathParts}
 use Rattle.cr_path.proofs.Living.{child_told}
+use Rattle.cr_path.proofs.Uncut.{few_steps}
 use Rattle.cr_path.proofs.Walking.{have_marks}
 use Rattle.cr_path.proofs.path.Path.is_cut.Goals as goal
 
@@ -29,9 +30,11 @@ returns g c straight =
     let place : ℕ = c.args.end.base + c.args.step in
     let found = subst (λ (v : PathParts). IsLead v.problem v.numbers v.node c.args.step place c.lead_after-lead.result) (sym c.self.view_is) c.lead_after-lead.ensures in
     let are : c.numbers_after.result.now ≡ numbers_of t place = c.numbers_after.ensures.are ∙ ap (λ (v : PathParts). numbers_of v.numbers place) (sym c.self.view_is) in
+    let low : c.args.step < 32 = omega (arith, inside, few_steps p c.self.invariant.0.sound) in
+    let hopeless = subst (λ (v : PathParts). AreHopeless v.problem v.node c.args.hopeless) (sym c.self.view_is) c.requires.hopeless in
     child_told p t w.steps c.args.step place c.lead_after-lead.result w.marks.marks w.marks.fresh c.args.end c.self.invariant.0.numbered c.self.invariant.0.sound clean inside found c.self.invariant.0.marked at_end
     c.numbers_after.result.now are (nat_le c.from.result c.args.end.rung) c.has_some-is_again.result
     (ap (λ n. nat_le n c.args.end.rung) c.from.ensures) c.has_some-is_again.ensures
     (subst (λ (v : PathParts). is_turned_back v.problem (child v.node c.args.step) ≡ false) (sym c.self.view_is) straight)
-    c.is_hopeless_with-is_hopeless.result (c.is_hopeless_with-is_hopeless.ensures p w.steps (subst (IsCounted p w.steps) (sym c.deref.ensures) c.self.invariant.0.counted))
+    c.has_step.result (c.has_step.ensures low ∙ hopeless c.args.step inside low)
     ∙ ap (λ (v : PathParts). is_cut v.problem most_rows (child v.node c.args.step)) c.self.view_is

@@ -3,7 +3,7 @@ use Rattle.std.specs.Prelude.{replicate}
 use Rattle.cr_model.specs.Dead.{turn_free}
 use Rattle.cr_model.specs.Problems.{QueryParts}
 use Rattle.cr_path.specs.Marks.{MarksParts}
-use Rattle.cr_path.specs.Counted.{IsCounted}
+use Rattle.cr_path.specs.Counted.{IsIdle, IsCounted}
 use Rattle.cr_path.specs.Walks.{IsWalk}
 use Rattle.cr_path.specs.declared.ends.LeadEnd.{LeadEnd}
 use Rattle.cr_path.proofs.Walking.{root_end, root_walk}
@@ -21,7 +21,8 @@ invariant_of-result g c =
       subst (λ (node : List ℕ). IsWalk p leads t node c.count.result c.in_ok-ends.ends c.in_ok-marks.marks.marks c.in_ok-marks.marks.fresh counting free) (sym c.in_ok-steps.ensures)
           (subst (λ (ends : List LeadEnd). IsWalk p leads t [] c.count.result ends c.in_ok-marks.marks.marks c.in_ok-marks.marks.fresh counting free) (sym c.in_ok-ends.ensures)
           (subst (λ (m : MarksParts). IsWalk p leads t [] c.count.result (root_end ∷ []) m.marks m.fresh counting free) (sym marks_are)
-          (root_walk p leads t counting free c.query.ensures.sound c.requires.leads c.requires.numbers (subst (IsCounted p []) (sym c.in_ok-counting.ensures.ok) c.in_ok-counts.ensures)
+          (root_walk p leads t counting free c.query.ensures.sound c.requires.leads c.requires.numbers (subst (IsCounted p []) (sym c.in_ok-counting.ensures.ok) c.in_ok-counts.ensures.counted)
           (c.turn_free.ensures ∙ ap (λ (q : QueryParts). turn_free q) c.query.ensures.is) c.count.result (c.count.ensures.of_problem p c.requires.leads)))),
       c.requires.width,
+      λ none. subst IsIdle (sym c.in_ok-counting.ensures.ok) (c.in_ok-counts.ensures.idle (c.requires.counted none)),
     )

@@ -14,4 +14,5 @@ invariant_of-self g c =
       stayed p w.leads.now t w.steps w.next w.ends w.marks.marks w.marks.fresh w.counting.value w.turn_free c.self.invariant.0 c.step_count-self-inside.result c.keep_left.new.self (omega (arith, all))
           (c.keep_left.ensures p t w.steps w.next c.step_count-self-inside.result c.self.invariant.0.ends (subst (λ n. AreUncut p w.steps n c.no_steps.result) (sym all) (none_left p w.steps c.no_steps.result c.no_steps.ensures))),
       c.self.invariant.1,
+      c.self.invariant.2,
     )

@@ -2,7 +2,7 @@ use Rattle.std.proofs.Common.{◌≡◌, ◌%◌, ◌/◌, ◌^◌, ℕ, nat_eq,
 use Rattle.std.specs.Int.RustNames.{bit_and}
 use Rattle.std.proofs.lemmas.Nat.{and_mask}
 use Rattle.std.proofs.lemmas.Nat.Bits.{shr_and_one}
-use Rattle.cr_path.proofs.counting.has_step.Goals as goal
+use Rattle.cr_path.proofs.sets.has_step.Goals as goal
 
 pub returns : goal.returns
 returns c low =
