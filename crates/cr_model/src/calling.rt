@@ -1,6 +1,6 @@
 //! Callings, as lists of step numbers.
 
-ghost use Rattle.std.specs.Prelude.{◌≡◌, ◌↔◌, ◌*◌, ◌≤◌, length, IsOk, IfOk, IfErr, vec_len};
+ghost use Rattle.std.specs.Prelude.{◌≡◌, ◌↔◌, ◌+◌, ◌*◌, ◌≤◌, [], ◌++◌, length, IsOk, IfOk, IfErr, vec_len};
 ghost use Rattle.cr_model.specs.Limits.{most_leads};
 ghost use Rattle.cr_model.specs.Queries.{repeated};
 
@@ -58,6 +58,29 @@ impl Calling {
             all.extend_from_slice(steps)?;
         }
         Ok(Calling { steps: all })
+    }
+
+    /// The calling of no steps. It takes no memory.
+    #[inline(always)]
+    pub fn empty(alloc: Global) -> Calling
+        ensures { result ≡ [] }
+    {
+        Calling {
+            steps: SmallVec::new(alloc),
+        }
+    }
+
+    /// Appends these steps. It takes memory only where there are more than 40 then, and no more than they need; Err where
+    /// there is none, and the calling is as it was.
+    #[inline(always)]
+    pub fn extend_from_slice(&mut self, steps: &[u8]) -> Result<(), NoMemory>
+        requires { length self.old + length steps.now ≤ most_leads }
+        ensures is { IfOk result (λ _. self.new ≡ self.old ++ steps.now) }
+        ensures stays { IfErr result (λ _. self.new ≡ self.old) }
+    {
+        self.steps.reserve_exact(steps.len())?;
+        self.steps.extend_from_slice(steps)?;
+        Ok(())
     }
 
     /// Its step numbers.

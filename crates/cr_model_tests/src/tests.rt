@@ -345,6 +345,19 @@ fn a_calling_is_equal_parts(rt: HostRuntime) -> Result<(), Fail> {
 }
 
 #[test]
+fn a_calling_grows_by_steps(rt: HostRuntime) -> Result<(), Fail> {
+    let mut calling = Calling::empty(rt.alloc());
+    assert!(rt; calling.steps().is_empty());
+    calling.extend_from_slice(&[2, 0])?;
+    calling.extend_from_slice(&[1])?;
+    assert_eq!(rt; calling.steps(), [2, 0, 1].as_slice());
+    calling.extend_from_slice(&[7; 38])?;
+    let steps = calling.steps();
+    assert!(rt; steps.len() == 41 && steps.starts_with(&[2, 0, 1, 7]) && steps.ends_with(&[7, 7]));
+    Ok(())
+}
+
+#[test]
 fn faults_are_told_in_words(rt: HostRuntime) -> Result<(), Fail> {
     let path = KeyPath {
         bytes: b"query.min".to_vec(rt.alloc())?,
