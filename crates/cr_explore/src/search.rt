@@ -12,7 +12,7 @@ ghost use Rattle.cr_explore.specs.Stacks.{place_at, stack_of, IsPlace, IsTaken, 
 ghost use Rattle.cr_explore.specs.Turns.{after_turns};
 
 use crate::path::Path;
-use crate::touches::{node_from, touch_of};
+use crate::touches::{add_touch, node_from};
 use cr_model::laws::a_child_is_longer;
 use cr_model::{Calling, Problem};
 use cr_node::Node;
@@ -113,21 +113,6 @@ fn find_touch<P: Path>(alloc: Global, path: &P, found: &mut Vec<Calling>) -> Res
     if path.is_kept(alloc)? {
         return add_touch(alloc, path.problem(), path.node(), found);
     }
-    Ok(())
-}
-
-// Appends the touch of a node.
-#[inline(never)]
-fn add_touch(
-    alloc: Global,
-    problem: &Problem,
-    node: &[u8],
-    found: &mut Vec<Calling>,
-) -> Result<(), NoMemory>
-    requires { IsValid problem.now node.now }
-    ensures { IfOk result (λ _. found.new.items ≡ found.old.items ++ touch_of problem.now node.now ∷ []) }
-{
-    found.push(touch_of(alloc, problem, node)?)?;
     Ok(())
 }
 

@@ -1,6 +1,6 @@
 //! Nodes and touches of the steps of a path.
 
-ghost use Rattle.std.specs.Prelude.{◌≡◌, ℕ, ◌*◌, ◌≤◌, List, length, IfOk};
+ghost use Rattle.std.specs.Prelude.{◌≡◌, ℕ, ◌*◌, ◌≤◌, List, [], ◌∷◌, ◌++◌, length, IfOk};
 ghost use Rattle.cr_model.specs.Nodes.{IsValid};
 ghost use Rattle.cr_model.specs.OneTurn.{touch_of};
 ghost use Rattle.cr_model.specs.Dead.{parts_of};
@@ -18,6 +18,43 @@ pub fn touch_of(alloc: Global, problem: &Problem, node: &[u8]) -> Result<Calling
     ensures { IfOk result (λ calling. calling ≡ touch_of problem.now node.now) }
 {
     Calling::repeated(alloc, node, parts_of(problem))
+}
+
+/// Appends the touch of a node to others. Where that is the node itself, it is written where it stands. Err where no
+/// memory is left.
+#[inline(never)]
+pub fn add_touch(
+    alloc: Global,
+    problem: &Problem,
+    node: &[u8],
+    touches: &mut Vec<Calling>,
+) -> Result<(), NoMemory>
+    requires { IsValid problem.now node.now }
+    ensures { IfOk result (λ _. touches.new.items ≡ touches.old.items ++ touch_of problem.now node.now ∷ []) }
+{
+    if parts_of(problem) == 1 {
+        return add_node(alloc, problem, node, touches);
+    }
+    touches.push(touch_of(alloc, problem, node)?)?;
+    Ok(())
+}
+
+// Appends a node as a calling.
+#[inline(always)]
+fn add_node(
+    alloc: Global,
+    problem: &Problem,
+    node: &[u8],
+    touches: &mut Vec<Calling>,
+) -> Result<(), NoMemory>
+    requires { IsValid problem.now node.now }
+    ensures { IfOk result (λ _. touches.new.items ≡ touches.old.items ++ node.now ∷ []) }
+{
+    let _problem = problem.stage();
+    let last = touches.len();
+    touches.push(Calling::empty(alloc))?;
+    touches[last].extend_from_slice(node)?;
+    Ok(())
 }
 
 /// The number of parts.

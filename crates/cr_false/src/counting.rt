@@ -24,7 +24,7 @@ pub fn numbers_of(
     let end = MOST_STEPS * usize::from(leads.count());
     (0..end)
         .into_par_iter()
-        .with_min_len(1)
+        .with_min_len(MOST_STEPS)
         .map(
             |pair: usize| -> Result<u32, NoMemory>
                 ensures { IfOk result (λ number. HasNumber (IsFalsePair leads.entry.now pair) number) }
@@ -45,7 +45,7 @@ pub fn sets_of(
     let end = MOST_STEPS * usize::from(leads.count());
     (0..end)
         .into_par_iter()
-        .with_min_len(1)
+        .with_min_len(MOST_STEPS)
         .map(
             |pair: usize| -> Result<RowStack, NoMemory>
                 ensures { IfOk result (λ set. IsSetOf (IsFalsePair leads.entry.now pair) set.rows) }

@@ -1,5 +1,5 @@
 -- The marks of a node's rows, a lead more and a lead less.
-use Rattle.std.proofs.Common.{◌≡◌, ℕ, ◌+◌, ◌*◌, ◌<◌, ◌≤◌, Bool, true, false, cond, not, ◌&&◌, nat_eq, List, [], ◌∷◌, length, get_or, map, take, drop, All, refl, sym, ap, ap₂, ◌∙◌, inl, inr, arith, length-append}
+use Rattle.std.proofs.Common.{◌≡◌, ℕ, ◌+◌, ◌-◌, ◌*◌, ◌<◌, ◌≤◌, Bool, true, false, cond, not, ◌&&◌, nat_eq, List, [], ◌∷◌, length, get_or, map, take, drop, All, refl, sym, ap, ap₂, ◌∙◌, inl, inr, arith, length-append}
 use Rattle.std.specs.List.{list_any}
 use Rattle.std.proofs.lemmas.Bool.{and_parts, cases_eq, false≢true, false_from_ne_true, not-true}
 use Rattle.std.proofs.lemmas.Bool.Decides.{eqb_tells, same_from_decides, Decides-like}
@@ -13,7 +13,7 @@ use Rattle.cr_model.specs.Sizes.{child}
 use Rattle.cr_model.proofs.Bells.{rows_are_rows, last_is_row}
 use Rattle.cr_model.proofs.Deciding.{rows_differ_decided}
 use Rattle.cr_path.specs.declared.table.LeadRecord.{LeadRecord}
-use Rattle.cr_path.specs.Marks.{some_marked, row_at, AreSet, AreMarked}
+use Rattle.cr_path.specs.Marks.{some_marked, row_at, AreSet, AreMarked, HasMarks}
 use Rattle.cr_path.specs.Numbers.{NumberParts, lead_from, numbers_of, IsRecord, IsNumbered}
 use Rattle.cr_path.proofs.Children.{row_laws, child_rows, leads_differ}
 use Rattle.cr_path.proofs.Listed.{at, differ_joined, some_are, more_marked, fewer_marked}
@@ -35,7 +35,7 @@ module _ (p : ProblemParts) (node : List ℕ) (step : ℕ) where
   child_differs : rows_differ (rows_of p (child node step)) ≡ (rows_differ (rows_of p node) && (rows_differ (lead_from p (head_of p node) step) && not (list_any (is_listed (rows_of p node)) (lead_from p (head_of p node) step))))
   child_differs = ap rows_differ (child_rows p node step) ∙ differ_joined (rows_of p node) (lead_from p (head_of p node) step)
 
-  node_differs : rows_differ (rows_of p (child node step)) ≡ true → rows_differ (rows_of p node) ≡ true
+  pub node_differs : rows_differ (rows_of p (child node step)) ≡ true → rows_differ (rows_of p node) ≡ true
   node_differs differ = (and_parts (rows_differ (rows_of p node)) _ (sym child_differs ∙ differ)).0
 
   none_again : rows_differ (rows_of p (child node step)) ≡ true → list_any (is_listed (rows_of p node)) (lead_from p (head_of p node) step) ≡ false
@@ -68,14 +68,20 @@ pub marks_of : (p : ProblemParts) (t : NumberParts) (node : List ℕ) (marks : L
 marks_of p t node marks fresh are all number inside =
     are.of number inside ∙ ap (λ word. is_listed (rows_of p word) (get_or t.rows number [])) (take_all fresh node (omega (arith, all)))
 
--- a node brings a row again exactly where not all of its leads are kept
-pub repeat_told : (p : ProblemParts) (t : NumberParts) (node : List ℕ) (marks : List Bool) (fresh leads : ℕ) → AreMarked p t node marks fresh → leads ≡ length node →
-    not (nat_eq fresh leads) ≡ not (rows_differ (rows_of p node))
-repeat_told p t node marks fresh leads are is = elim (eqb_tells fresh leads) [
-  | inl e ↦ ap not (e.0 ∙ sym (ap (λ word. rows_differ (rows_of p word)) (sym (take_all fresh node (omega (arith, e.1, is)))) ∙ are.differ))
+-- so none is without marks
+pub none_unmarked : (p : ProblemParts) (t : NumberParts) (node : List ℕ) (marks : List Bool) (unmarked : ℕ) → HasMarks p t node marks unmarked → rows_differ (rows_of p node) ≡ true → unmarked ≡ 0
+none_unmarked p t node marks unmarked has differ = omega (arith, has.within, all_fresh p t node marks (length node - unmarked) has.are differ)
+
+-- a node brings a row again exactly where not all of its leads have marks
+pub repeat_told : (p : ProblemParts) (t : NumberParts) (node : List ℕ) (marks : List Bool) (unmarked : ℕ) → HasMarks p t node marks unmarked →
+    not (nat_eq unmarked 0) ≡ not (rows_differ (rows_of p node))
+repeat_told p t node marks unmarked has = elim (eqb_tells unmarked 0) [
+  | inl e ↦
+      let whole : take (length node - unmarked) node ≡ node = take_all (length node - unmarked) node (omega (arith, e.1)) in
+      ap not (e.0 ∙ sym (ap (λ word. rows_differ (rows_of p word)) (sym whole) ∙ has.are.differ))
   | inr e ↦
       let again : rows_differ (rows_of p node) ≡ false =
-      false_from_ne_true (rows_differ (rows_of p node)) (λ differ. e.1 (all_fresh p t node marks fresh are differ ∙ sym is)) in
+      false_from_ne_true (rows_differ (rows_of p node)) (λ differ. e.1 (none_unmarked p t node marks unmarked has differ)) in
       ap not (e.0 ∙ sym again)
 ]
 

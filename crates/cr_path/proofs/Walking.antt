@@ -15,14 +15,14 @@ use Rattle.cr_path.specs.declared.counting.Counting.{Counting}
 use Rattle.cr_path.specs.declared.ends.LeadEnd.{LeadEnd}
 use Rattle.cr_path.specs.declared.table.LeadRecord.{LeadRecord}
 use Rattle.cr_path.specs.Counted.{IsCounted}
-use Rattle.cr_path.specs.Ends.{IsEnd, AreEnds}
-use Rattle.cr_path.specs.Marks.{MarksParts, AreSet, AreMarked}
+use Rattle.cr_path.specs.Ends.{EndsParts, IsEnd, AreEnds, HasEnds}
+use Rattle.cr_path.specs.Marks.{MarksParts, AreSet, AreMarked, HasMarks}
 use Rattle.cr_path.specs.Numbers.{NumberParts, numbers_of, comes_home, IsBase, IsRecord, IsNumbered}
 use Rattle.cr_path.specs.Sets.{AreUncut}
 use Rattle.cr_path.specs.Walks.{IsWalk, parent}
 use mir.Val.{bool_byte}
 use Rattle.cr_path.proofs.Children.{child_head, child_length, part_few, few_leads, valid_first, last_step}
-use Rattle.cr_path.proofs.Marking.{within_in, marked_more, marked_less, marked_same, marked_stays}
+use Rattle.cr_path.proofs.Marking.{within_in, node_differs, none_unmarked, marked_more, marked_less, marked_same, marked_stays}
 use Rattle.cr_path.proofs.Places.{record_at, root_base}
 use Rattle.cr_path.proofs.Homes.{root_home}
 use Rattle.cr_path.proofs.StepSets.{none_of_zero}
@@ -45,8 +45,9 @@ root_ends p t numbered zero d within = record {
 root_ends p t numbered (suc i) d within = absurd (omega (arith, within))
 
 pub root_walk : (p : ProblemParts) (leads : TableParts) (t : NumberParts) (counting : Counting) (free : Bool) → IsSound p → leads ≡ lead_table p → IsNumbered p t
-    → IsCounted p [] counting → free ≡ turn_free p.query → (next : ℕ) → next ≡ length p.leads → IsWalk p leads t [] next (root_end ∷ []) (replicate (length t.rows) false) 0 counting free
-root_walk p leads t counting free sound table numbered counted free_is next all = record {
+    → IsCounted p [] counting → free ≡ turn_free p.query → (next : ℕ) → next ≡ length p.leads → (ends : EndsParts) → ends.last ≡ root_end
+    → IsWalk p leads t [] next ends (replicate (length t.rows) false) 0 counting free
+root_walk p leads t counting free sound table numbered counted free_is next all ends at_root = record {
   sound = sound;
   table = table;
   numbered = numbered;
@@ -55,18 +56,21 @@ root_walk p leads t counting free sound table numbered counted free_is next all 
     short = omega arith;
   };
   tried = omega (arith, all);
-  ends = record {
+  ends = subst (λ (end : LeadEnd). AreEnds p t [] next (end ∷ [])) (sym at_root) (record {
     number = refl;
     each = root_ends p t numbered;
     tried = λ i d low. absurd (omega (arith, low));
     left = λ d. subst (λ n. AreUncut p [] n 0) (sym all) (none_left p [] 0 (none_of_zero 0 refl));
-  };
+  });
   marked = record {
     within = omega arith;
-    counted = length-replicate (length t.rows) false;
-    of = λ number inside. get_or-replicate (length t.rows) number false false inside;
-    differ = refl;
-    again = λ low. absurd (omega (arith, low));
+    are = record {
+      within = omega arith;
+      counted = length-replicate (length t.rows) false;
+      of = λ number inside. get_or-replicate (length t.rows) number false false inside;
+      differ = refl;
+      again = λ low. absurd (omega (arith, low));
+    };
   };
   counted = counted;
   free = free_is;
@@ -98,7 +102,7 @@ step_known p node step valid =
     let at_end : get_or (child node step) (length node) 0 ≡ step = get_or_push node step 0 (length node) refl in
     subst (λ (s : ℕ). s < length p.leads) at_end (valid.steps (length node) 0 (omega (arith, length_push node step)))
 
-module _ (p : ProblemParts) (leads : TableParts) (t : NumberParts) (node : List ℕ) (next : ℕ) (ends : List LeadEnd) (marks : List Bool) (fresh : ℕ) (counting : Counting) (free : Bool) (is : IsWalk p leads t node next ends marks fresh counting free) where
+module _ (p : ProblemParts) (leads : TableParts) (t : NumberParts) (node : List ℕ) (next : ℕ) (ends : EndsParts) (marks : List Bool) (unmarked : ℕ) (counting : Counting) (free : Bool) (is : IsWalk p leads t node next ends marks unmarked counting free) where
   -- the table knows a step
   pub step_tabled : (step : ℕ) → step < length p.leads → step < t.steps
   step_tabled step inside = omega (arith, is.numbered.counted, inside)
@@ -116,40 +120,58 @@ module _ (p : ProblemParts) (leads : TableParts) (t : NumberParts) (node : List 
   -- numbers of a lead have marks
   pub have_marks : (place : ℕ) (numbers : List ℕ) → numbers ≡ numbers_of t place → All (λ number. number < length marks) numbers
   have_marks place numbers are =
-      subst (λ n. All (λ number. number < n) numbers) (sym is.marked.counted)
+      subst (λ n. All (λ number. number < n) numbers) (sym is.marked.are.counted)
       (subst (λ list. All (λ number. number < length t.rows) list) (sym are) (within_in p t is.numbered place))
 
-  pub few_fresh : fresh ≤ 1024
-  few_fresh = omega (arith, is.marked.within, few_leads p node is.sound is.valid)
+  pub few_unmarked : unmarked ≤ 1024
+  few_unmarked = omega (arith, is.marked.within, few_leads p node is.sound is.valid)
 
   -- the marks of a child, where it is known whether its rows differ
   pub marked_on : (step place : ℕ) (lead : LeadRecord) (numbers : List ℕ) (is_new : Bool) (next : MarksParts) → IsRecord p t (head_of p node) step place lead → numbers ≡ numbers_of t place →
-      is_new ≡ rows_differ (rows_of p (child node step)) → length next.marks ≡ length marks → (is_new ≡ true → AreSet true numbers marks next.marks × (next.fresh ≡ fresh + 1)) → (is_new ≡ false → next ≡ record { marks = marks; fresh = fresh }) →
-      AreMarked p t (child node step) next.marks next.fresh
-  marked_on step place lead numbers is_new next known are new long added same = elim (cases_Bool is_new) [
-    | inl more ↦ subst (AreMarked p t (child node step) next.marks) (sym (added more).1) (marked_more p t node step place lead known numbers are marks next.marks fresh is.marked long (sym new ∙ more) (added more).0)
-    | inr twice ↦ subst (λ (m : MarksParts). AreMarked p t (child node step) m.marks m.fresh) (sym (same twice)) (marked_same p t node step marks fresh is.marked (sym new ∙ twice))
-  ]
+      is_new ≡ rows_differ (rows_of p (child node step)) → length next.marks ≡ length marks → (is_new ≡ true → AreSet true numbers marks next.marks × (next.unmarked ≡ unmarked))
+      → (is_new ≡ false → next ≡ record { marks = marks; unmarked = unmarked + 1 }) → HasMarks p t (child node step) next.marks next.unmarked
+  marked_on step place lead numbers is_new next known are new long added same =
+      let more : length (child node step) ≡ length node + 1 = length_push node step in
+      elim (cases_Bool is_new) [
+        | inl fresh ↦
+            let differ = sym new ∙ fresh in
+            let none : unmarked ≡ 0 = none_unmarked p t node marks unmarked is.marked (node_differs p node step differ) in
+            record {
+              within = omega (arith, (added fresh).1, none);
+              are = subst (AreMarked p t (child node step) next.marks) (omega (arith, more, none, (added fresh).1))
+                  (marked_more p t node step place lead known numbers are marks next.marks (length node - unmarked) is.marked.are long differ (added fresh).0);
+            }
+        | inr twice ↦ subst (λ (m : MarksParts). HasMarks p t (child node step) m.marks m.unmarked) (sym (same twice)) (record {
+          within = omega (arith, more, is.marked.within);
+          are = subst (AreMarked p t (child node step) marks) (omega (arith, more)) (marked_same p t node step marks (length node - unmarked) is.marked.are (sym new ∙ twice));
+        })
+      ]
 
   -- and back from a child
-  pub marked_back : (above : List ℕ) (step place leads_now : ℕ) (lead : LeadRecord) (numbers : List ℕ) (next : MarksParts) → node ≡ child above step → leads_now ≡ length node → IsRecord p t (head_of p above) step place lead → numbers ≡ numbers_of t place →
-      length next.marks ≡ length marks → (fresh ≡ leads_now → AreSet false numbers marks next.marks × (next.fresh ≡ leads_now - 1)) → ((fresh ≡ leads_now → ⊥) → next ≡ record { marks = marks; fresh = fresh }) →
-      AreMarked p t above next.marks next.fresh
-  marked_back above step place leads_now lead numbers next whole counts known are long taken same =
-      let before : AreMarked p t (child above step) marks fresh = subst (λ word. AreMarked p t word marks fresh) whole is.marked in
-      let counted_now : leads_now ≡ length (child above step) = counts ∙ ap length whole in
-      elim (cases_eq fresh leads_now) [
-        | inl all ↦
-            let left : next.fresh ≡ length above = omega (arith, (taken all).1, counted_now, length_push above step) in
-            subst (AreMarked p t above next.marks) (sym left) (marked_less p t above step place lead known numbers are marks next.marks fresh before long (all ∙ counted_now) (taken all).0)
-        | inr some ↦ subst (λ (m : MarksParts). AreMarked p t above m.marks m.fresh) (sym (same some)) (marked_stays p t above step marks fresh before (λ all. some (all ∙ sym counted_now)))
+  pub marked_back : (above : List ℕ) (step place : ℕ) (lead : LeadRecord) (numbers : List ℕ) (next : MarksParts) → node ≡ child above step → IsRecord p t (head_of p above) step place lead → numbers ≡ numbers_of t place →
+      length next.marks ≡ length marks → (unmarked ≡ 0 → AreSet false numbers marks next.marks × (next.unmarked ≡ 0)) → (0 < unmarked → next ≡ record { marks = marks; unmarked = unmarked - 1 }) →
+      HasMarks p t above next.marks next.unmarked
+  marked_back above step place lead numbers next whole known are long taken same =
+      let before : HasMarks p t (child above step) marks unmarked = subst (λ word. HasMarks p t word marks unmarked) whole is.marked in
+      let more : length (child above step) ≡ length above + 1 = length_push above step in
+      elim (cases_eq unmarked 0) [
+        | inl none ↦ record {
+          within = omega (arith, (taken none).1);
+          are = subst (AreMarked p t above next.marks) (omega (arith, (taken none).1))
+              (marked_less p t above step place lead known numbers are marks next.marks (length (child above step) - unmarked) before.are long (omega (arith, none)) (taken none).0);
+        }
+        | inr some ↦ subst (λ (m : MarksParts). HasMarks p t above m.marks m.unmarked) (sym (same (omega (arith, some)))) (record {
+          within = omega (arith, before.within, more, some);
+          are = subst (AreMarked p t above marks) (omega (arith, before.within, more, some))
+              (marked_stays p t above step marks (length (child above step) - unmarked) before.are (λ all. absurd (omega (arith, all, before.within, some))));
+        })
       ]
 
   -- a step on
-  pub walked : (step next' : ℕ) (ends' : List LeadEnd) (marks' : List Bool) (fresh' : ℕ) (counting' : Counting) → IsValid p (child node step) → next' ≤ length p.leads →
-      AreEnds p t (child node step) next' ends' → AreMarked p t (child node step) marks' fresh' → IsCounted p (child node step) counting' →
-      IsWalk p leads t (child node step) next' ends' marks' fresh' counting' free
-  walked step next' ends' marks' fresh' counting' valid tried at_ends marked counted = record {
+  pub walked : (step next' : ℕ) (ends' : EndsParts) (marks' : List Bool) (unmarked' : ℕ) (counting' : Counting) → IsValid p (child node step) → next' ≤ length p.leads →
+      HasEnds p t (child node step) next' ends' → HasMarks p t (child node step) marks' unmarked' → IsCounted p (child node step) counting' →
+      IsWalk p leads t (child node step) next' ends' marks' unmarked' counting' free
+  walked step next' ends' marks' unmarked' counting' valid tried at_ends marked counted = record {
     sound = is.sound;
     table = is.table;
     numbered = is.numbered;
@@ -162,7 +184,7 @@ module _ (p : ProblemParts) (leads : TableParts) (t : NumberParts) (node : List 
   }
 
   -- at the same node
-  pub stayed : (next' : ℕ) (ends' : List LeadEnd) → next' ≤ length p.leads → AreEnds p t node next' ends' → IsWalk p leads t node next' ends' marks fresh counting free
+  pub stayed : (next' : ℕ) (ends' : EndsParts) → next' ≤ length p.leads → HasEnds p t node next' ends' → IsWalk p leads t node next' ends' marks unmarked counting free
   stayed next' ends' tried at_ends = record {
     sound = is.sound;
     table = is.table;
@@ -176,10 +198,10 @@ module _ (p : ProblemParts) (leads : TableParts) (t : NumberParts) (node : List 
   }
 
   -- a step back
-  pub returned : (next' : ℕ) (ends' : List LeadEnd) (marks' : List Bool) (fresh' : ℕ) (counting' : Counting) → next' ≤ length p.leads →
-      AreEnds p t (parent node) next' ends' → AreMarked p t (parent node) marks' fresh' → IsCounted p (parent node) counting' →
-      IsWalk p leads t (parent node) next' ends' marks' fresh' counting' free
-  returned next' ends' marks' fresh' counting' tried at_ends marked counted = record {
+  pub returned : (next' : ℕ) (ends' : EndsParts) (marks' : List Bool) (unmarked' : ℕ) (counting' : Counting) → next' ≤ length p.leads →
+      HasEnds p t (parent node) next' ends' → HasMarks p t (parent node) marks' unmarked' → IsCounted p (parent node) counting' →
+      IsWalk p leads t (parent node) next' ends' marks' unmarked' counting' free
+  returned next' ends' marks' unmarked' counting' tried at_ends marked counted = record {
     sound = is.sound;
     table = is.table;
     numbered = is.numbered;

@@ -1,5 +1,5 @@
 -- Where the leads of a node end, by numbers.
-use Rattle.std.specs.Prelude.{◌≡◌, ℕ, nat_eq, ◌+◌, ◌-◌, ◌<◌, ◌≤◌, List, length, get_or, take}
+use Rattle.std.specs.Prelude.{◌≡◌, ℕ, nat_eq, ◌+◌, ◌-◌, ◌<◌, ◌≤◌, List, [], ◌∷◌, ◌++◌, length, get_or, take}
 use Rattle.cr_model.specs.Problems.{ProblemParts}
 use Rattle.cr_model.specs.Callings.{length_of, head_of}
 use Rattle.cr_path.specs.Numbers.{NumberParts, IsBase, comes_home}
@@ -22,3 +22,15 @@ pub record AreEnds (p : ProblemParts) (t : NumberParts) (node : List ℕ) (next 
   pub each : (i : ℕ) (d : LeadEnd) → i ≤ length node → IsEnd p t (take i node) (get_or ends i d)
   pub tried : (i : ℕ) (d : LeadEnd) → i < length node → AreUncut p (take i node) (get_or node i 0 + 1) (get_or ends i d).left
   pub left : (d : LeadEnd) → AreUncut p node next (get_or ends (length node) d).left
+
+-- the last end of some leads, and a list that begins with those before it
+pub record EndsParts : Type 0 where
+  pub before : List LeadEnd
+  pub last : LeadEnd
+
+-- those of a node, which has as many leads as ends stand before the last one
+abbrev pub ends_of : List ℕ → EndsParts → List LeadEnd
+ends_of node parts = take (length node) parts.before ++ parts.last ∷ []
+
+abbrev pub HasEnds : ProblemParts → NumberParts → List ℕ → ℕ → EndsParts → Type 0
+HasEnds p t node next parts = AreEnds p t node next (ends_of node parts)

@@ -1,5 +1,5 @@
 -- Marks of telling rows.
-use Rattle.std.specs.Prelude.{◌≡◌, ℕ, ◌+◌, ◌<◌, ◌≤◌, Bool, true, false, cond, nat_eq, List, [], length, get_or, map, take}
+use Rattle.std.specs.Prelude.{◌≡◌, ℕ, ◌+◌, ◌-◌, ◌<◌, ◌≤◌, Bool, true, false, cond, nat_eq, List, [], length, get_or, map, take}
 use Rattle.std.specs.List.{list_any}
 use Rattle.cr_model.specs.Problems.{ProblemParts}
 use Rattle.cr_model.specs.Callings.{rows_of, head_of}
@@ -8,10 +8,10 @@ use Rattle.cr_model.specs.Levels.{is_listed}
 use Rattle.cr_path.specs.declared.table.LeadRecord.{LeadRecord}
 use Rattle.cr_path.specs.Numbers.{NumberParts, IsRecord, lead_from, numbers_of}
 
--- of each telling row whether it is marked, and how many leads have theirs marked
+-- of each telling row whether it is marked, and how many leads do not have theirs marked
 pub record MarksParts : Type 0 where
   pub marks : List Bool
-  pub fresh : ℕ
+  pub unmarked : ℕ
 
 -- one of the numbers is marked
 abbrev pub some_marked : List Bool → List ℕ → Bool
@@ -33,6 +33,11 @@ pub record AreMarked (p : ProblemParts) (t : NumberParts) (node : List ℕ) (mar
   pub of : AreOf t (rows_of p (take fresh node)) marks
   pub differ : rows_differ (rows_of p (take fresh node)) ≡ true
   pub again : fresh < length node → rows_differ (rows_of p (take (fresh + 1) node)) ≡ false
+
+-- the same, told by how many leads do not have theirs marked
+pub record HasMarks (p : ProblemParts) (t : NumberParts) (node : List ℕ) (marks : List Bool) (unmarked : ℕ) : Type 0 where
+  pub within : unmarked ≤ length node
+  pub are : AreMarked p t node marks (length node - unmarked)
 
 -- the telling row with a number
 abbrev pub row_at : NumberParts → ℕ → List ℕ

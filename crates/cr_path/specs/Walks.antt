@@ -8,10 +8,9 @@ use Rattle.cr_model.specs.Nodes.{IsValid}
 use Rattle.cr_model.specs.Sound.{IsSound}
 use Rattle.cr_leads.specs.Tables.{TableParts, lead_table}
 use Rattle.cr_path.specs.Numbers.{NumberParts, IsNumbered}
-use Rattle.cr_path.specs.Ends.{AreEnds}
-use Rattle.cr_path.specs.Marks.{AreMarked}
+use Rattle.cr_path.specs.Ends.{EndsParts, HasEnds}
+use Rattle.cr_path.specs.Marks.{HasMarks}
 use Rattle.cr_path.specs.Counted.{IsCounted}
-use Rattle.cr_path.specs.declared.ends.LeadEnd.{LeadEnd}
 use Rattle.cr_path.specs.declared.counting.Counting.{Counting}
 
 -- the problem, the node, and the step from which on the node's children are not tried yet
@@ -42,13 +41,13 @@ abbrev pub room_of : ProblemParts → ℕ
 room_of p = part_cap p + most_lead_changes
 
 -- what the fields keep: each is told by the problem, the node and the next step
-pub record IsWalk (p : ProblemParts) (leads : TableParts) (t : NumberParts) (node : List ℕ) (next : ℕ) (places : List LeadEnd) (marks : List Bool) (fresh : ℕ) (counting : Counting) (turn_free_now : Bool) : Type 0 where
+pub record IsWalk (p : ProblemParts) (leads : TableParts) (t : NumberParts) (node : List ℕ) (next : ℕ) (places : EndsParts) (marks : List Bool) (unmarked : ℕ) (counting : Counting) (turn_free_now : Bool) : Type 0 where
   pub sound : IsSound p
   pub table : leads ≡ lead_table p
   pub numbered : IsNumbered p t
   pub valid : IsValid p node
   pub tried : next ≤ length p.leads
-  pub ends : AreEnds p t node next places
-  pub marked : AreMarked p t node marks fresh
+  pub ends : HasEnds p t node next places
+  pub marked : HasMarks p t node marks unmarked
   pub counted : IsCounted p node counting
   pub free : turn_free_now ≡ turn_free p.query

@@ -1,6 +1,7 @@
 //! Paths by numbers: where the lead heads of a problem can be numbered, nothing is rung while it is searched.
 #![tactic(auto)]
 
+mod at_hand;
 mod counting;
 mod covers;
 mod ends;

@@ -1,19 +1,21 @@
 //! Marks of telling rows.
 
-ghost use Rattle.std.specs.Prelude.{◌≡◌, ◌+◌, ◌-◌, ◌<◌, ◌≤◌, true, false, length, get_or, replicate, All, IfOk};
+ghost use Rattle.std.specs.Prelude.{◌≡◌, ◌+◌, ◌-◌, ◌<◌, ◌≤◌, nat_eq, true, false, length, get_or, replicate, All, IfOk};
 ghost use Rattle.cr_path.specs.Marks.{some_marked, AreSet};
 
 use cr_row::NoMemory;
 use std::alloc::Global;
 use std::marker::Model;
 
-/// Of each telling row whether it is marked, and the number of leads whose telling rows are.
+/// Of each telling row whether it is marked, and of how many leads the telling rows are not.
 ///
 /// It is seen as the list of marks and that number.
 #[derive(Drop)]
 pub struct Marks {
     marks: Vec<bool>,
-    fresh: usize,
+    // The last ones of a node, from the first on that brings a row again: in a search nearly always none, so that this
+    // number stays as it is from turn to turn.
+    unmarked: usize,
 }
 
 impl Model for Marks {
@@ -21,24 +23,24 @@ impl Model for Marks {
 
     ghost Value = { MarksParts };
 
-    ghost view = { λ m. record { marks = m.marks.items; fresh = m.fresh } };
+    ghost view = { λ m. record { marks = m.marks.items; unmarked = m.unmarked } };
 }
 
 impl Marks {
     /// No mark on so many rows. All memory is taken here.
     pub fn new(alloc: Global, rows: usize) -> Result<Marks, NoMemory>
-        ensures { IfOk result (λ marks. marks ≡ record { marks = replicate rows false; fresh = 0 }) }
+        ensures { IfOk result (λ marks. marks ≡ record { marks = replicate rows false; unmarked = 0 }) }
     {
         let marks = Vec::from_elem(alloc, false, rows)?;
-        Ok(Marks { marks, fresh: 0 })
+        Ok(Marks { marks, unmarked: 0 })
     }
 
-    /// The number of leads whose telling rows are marked.
+    /// Whether the telling rows of all leads are marked.
     #[inline(always)]
-    pub fn fresh(&self) -> usize
-        ensures { result ≡ self.now.fresh }
+    pub fn are_all(&self) -> bool
+        ensures { result ≡ nat_eq self.now.unmarked 0 }
     {
-        self.fresh
+        self.unmarked == 0
     }
 
     /// The marks.
@@ -71,29 +73,30 @@ impl Marks {
     #[inline(always)]
     pub fn add(&mut self, numbers: &[u32], is_new: bool)
         requires within { All (λ number. number < length self.old.marks) numbers.now }
-        requires few { self.old.fresh ≤ 1024 }
+        requires few { self.old.unmarked ≤ 1024 }
         ensures long { length self.new.marks ≡ length self.old.marks }
-        ensures added { is_new ≡ true → AreSet true numbers.now self.old.marks self.new.marks × (self.new.fresh ≡ self.old.fresh + 1) }
-        ensures same { is_new ≡ false → self.new ≡ self.old }
+        ensures added { is_new ≡ true → AreSet true numbers.now self.old.marks self.new.marks × (self.new.unmarked ≡ self.old.unmarked) }
+        ensures same { is_new ≡ false → self.new ≡ record { marks = self.old.marks; unmarked = self.old.unmarked + 1 } }
     {
         if is_new {
             set_all(&mut self.marks, numbers, true);
-            self.fresh += 1;
+        } else {
+            self.unmarked += 1;
         }
     }
 
-    /// Takes the marks of the last of so many leads away, if those of all of them are marked.
+    /// Takes the marks of the last lead away, if those of all leads are marked.
     #[inline(always)]
-    pub fn take_back(&mut self, leads: usize, numbers: &[u32])
-        requires within { All (λ number. number < length self.old.marks) numbers.now }
-        requires some { 0 < leads }
+    pub fn take_back(&mut self, numbers: &[u32])
+        requires { All (λ number. number < length self.old.marks) numbers.now }
         ensures long { length self.new.marks ≡ length self.old.marks }
-        ensures taken { self.old.fresh ≡ leads → AreSet false numbers.now self.old.marks self.new.marks × (self.new.fresh ≡ leads - 1) }
-        ensures same { (self.old.fresh ≡ leads → ⊥) → self.new ≡ self.old }
+        ensures taken { self.old.unmarked ≡ 0 → AreSet false numbers.now self.old.marks self.new.marks × (self.new.unmarked ≡ 0) }
+        ensures same { 0 < self.old.unmarked → self.new ≡ record { marks = self.old.marks; unmarked = self.old.unmarked - 1 } }
     {
-        if self.fresh == leads {
+        if self.unmarked == 0 {
             set_all(&mut self.marks, numbers, false);
-            self.fresh = leads - 1;
+        } else {
+            self.unmarked -= 1;
         }
     }
 }

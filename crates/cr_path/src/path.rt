@@ -18,9 +18,10 @@ ghost use Rattle.cr_path.specs.Ends.{final_step, IsEnd};
 ghost use Rattle.cr_path.specs.Living.{is_clean, is_cut, is_hopeless, is_live, IsFirst, IsFirstUncut};
 ghost use Rattle.cr_path.specs.Marks.{IsLead};
 ghost use Rattle.cr_path.specs.Numbers.{numbers_of, IsNumbered};
-ghost use Rattle.cr_path.specs.Sets.{AreUncut};
+ghost use Rattle.cr_path.specs.Sets.{AreSeen, AreUncut};
 ghost use Rattle.cr_path.specs.Walks.{path_from, parent, room_of};
 
+use crate::at_hand::NumbersAtHand;
 use crate::counting::Counting;
 use crate::ends::{Ends, LeadEnd};
 use crate::marks::Marks;
@@ -44,7 +45,7 @@ use std::marker::Model;
 pub struct Path<'a, const WIDTH: usize, const COUNTS: usize> {
     problem: &'a Problem,
     leads: &'a LeadTable,
-    numbers: &'a NumberTable,
+    numbers: NumbersAtHand<'a>,
     // The node.
     steps: Period,
     // The step from which on its children are not tried yet.
@@ -66,9 +67,9 @@ impl<'a, const WIDTH: usize, const COUNTS: usize> Model for Path<'a, WIDTH, COUN
 
     ghost Value = { PathParts };
 
-    ghost view = { λ w. path_from w.problem.now w.numbers.now w.steps w.next };
+    ghost view = { λ w. path_from w.problem.now w.numbers w.steps w.next };
 
-    ghost invariant = { λ w. IsWalk w.problem.now w.leads.now w.numbers.now w.steps w.next w.ends w.marks.marks w.marks.fresh w.counting.value w.turn_free × (w.numbers.now.width ≡ WIDTH) × (COUNTS ≡ 0 → IsIdle w.counting.value) };
+    ghost invariant = { λ w. IsWalk w.problem.now w.leads.now w.numbers w.steps w.next w.ends w.marks.marks w.marks.unmarked w.counting.value w.turn_free × (w.numbers.width ≡ WIDTH) × (COUNTS ≡ 0 → IsIdle w.counting.value) };
 }
 
 impl<'a, const WIDTH: usize, const COUNTS: usize> Path<'a, WIDTH, COUNTS> {
@@ -94,7 +95,7 @@ impl<'a, const WIDTH: usize, const COUNTS: usize> Path<'a, WIDTH, COUNTS> {
         Ok(Path {
             problem,
             leads,
-            numbers,
+            numbers: NumbersAtHand::of(numbers),
             steps,
             next: leads.count(),
             ends,
@@ -197,7 +198,7 @@ impl<'a, const WIDTH: usize, const COUNTS: usize> Path<'a, WIDTH, COUNTS> {
     pub fn has_repeat(&self) -> bool
         ensures { result ≡ not (rows_differ (rows_of self.now.problem self.now.node)) }
     {
-        self.marks.fresh() != self.steps.steps().len()
+        !self.marks.are_all()
     }
 
     /// Whether all rows of the node's touch differ, where those of the node do and the touch comes home. It takes no
@@ -212,7 +213,7 @@ impl<'a, const WIDTH: usize, const COUNTS: usize> Path<'a, WIDTH, COUNTS> {
         let parts = parts_to_try(self.problem);
         bring_new_rows::<WIDTH>(
             self.problem,
-            self.numbers,
+            self.numbers.table(),
             self.marks.marks(),
             self.steps.steps(),
             base,
@@ -297,12 +298,42 @@ impl<'a, const WIDTH: usize, const COUNTS: usize> Path<'a, WIDTH, COUNTS> {
         ensures { AreUncut self.now.problem self.now.node 0 result }
     {
         // Also those that turn back are looked at, which takes less time than a loop whose length is not foreseen.
-        let hopeless = self.hopeless_steps();
-        let mut uncut = no_steps();
-        for step in 0..self.step_count() {
-            uncut = with_step(uncut, step, !self.is_cut(end, step, hopeless));
+        let seen = self.look_at_each(end, self.step_count());
+        without_below(seen, self.first_straight())
+    }
+
+    // The steps, which are so many, by which the children of a clean node are not cut, if they do not turn back. Where
+    // their number is that of most problems, it is known when this is compiled, so that a loop over them is none.
+    #[inline(always)]
+    fn look_at_each(&self, end: LeadEnd, count: u8) -> u32
+        requires clean { is_clean self.now.problem self.now.node ≡ true }
+        requires end { IsEnd self.now.problem self.now.numbers self.now.node end }
+        requires all { count ≡ length self.now.problem.leads }
+        requires few { count ≤ 24 }
+        ensures { AreSeen self.now.problem self.now.node count result }
+    {
+        match count {
+            2 => self.look_at_steps(end, 2),
+            3 => self.look_at_steps(end, 3),
+            _ => self.look_at_steps(end, count),
         }
-        without_below(uncut, self.first_straight())
+    }
+
+    // The same.
+    #[inline(always)]
+    fn look_at_steps(&self, end: LeadEnd, count: u8) -> u32
+        requires clean { is_clean self.now.problem self.now.node ≡ true }
+        requires end { IsEnd self.now.problem self.now.numbers self.now.node end }
+        requires all { count ≡ length self.now.problem.leads }
+        requires few { count ≤ 24 }
+        ensures { AreSeen self.now.problem self.now.node count result }
+    {
+        let hopeless = self.hopeless_steps();
+        let mut seen = no_steps();
+        for step in 0..count {
+            seen = with_step(seen, step, !self.is_cut(end, step, hopeless));
+        }
+        seen
     }
 
     // The least step by which the child does not turn back, or the number of steps. Where the query is the same for all
@@ -464,6 +495,7 @@ impl<'a, const WIDTH: usize, const COUNTS: usize> Path<'a, WIDTH, COUNTS> {
         self.marks
             .add(self.numbers.numbers_at::<WIDTH>(place), is_new);
         self.ends.push(
+            self.steps.steps().len(),
             left,
             LeadEnd {
                 base: lead.next,
@@ -474,7 +506,8 @@ impl<'a, const WIDTH: usize, const COUNTS: usize> Path<'a, WIDTH, COUNTS> {
         );
         self.steps.push(step);
         self.next = self.leads.count();
-        self.counting.add_lead::<COUNTS>(self.numbers, place, step);
+        let table = self.numbers.table();
+        self.counting.add_lead::<COUNTS>(table, place, step);
     }
 
     // Goes back to the node without the last step, whose children after that step are not tried yet.
@@ -485,14 +518,15 @@ impl<'a, const WIDTH: usize, const COUNTS: usize> Path<'a, WIDTH, COUNTS> {
     {
         let number = self.steps.steps().len();
         let step = self.steps.steps()[number - 1];
-        self.ends.pop();
+        self.ends.pop(number - 1);
         let base = self.ends.last().base;
         let place = self.numbers.place(base, step);
         self.marks
-            .take_back(number, self.numbers.numbers_at::<WIDTH>(place));
+            .take_back(self.numbers.numbers_at::<WIDTH>(place));
         self.steps.pop();
         self.next = step + 1;
-        self.counting.take_back::<COUNTS>(self.numbers, place, step);
+        let table = self.numbers.table();
+        self.counting.take_back::<COUNTS>(table, place, step);
     }
 
     // Goes back to so many steps.

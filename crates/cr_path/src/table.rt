@@ -1,6 +1,6 @@
 //! The lead heads and the telling rows of a problem by numbers, and of each head and step a record of the lead.
 
-ghost use Rattle.std.specs.Prelude.{◌≡◌, ◌+◌, ◌<◌, ◌≤◌, ◌↔◌, ℕ, List, IsTrue, false, [], length, get_or, map, IfOk, IfSome};
+ghost use Rattle.std.specs.Prelude.{◌≡◌, ◌+◌, ◌*◌, ◌<◌, ◌≤◌, ◌↔◌, ℕ, List, IsTrue, false, [], length, get_or, map, IfOk, IfSome};
 ghost use Rattle.cr_leads.specs.Tables.{lead_table};
 ghost use Rattle.cr_model.specs.Limits.{most_patterns};
 ghost use Rattle.cr_model.specs.Sizes.{most_rows};
@@ -171,6 +171,21 @@ impl NumberTable {
         let numbers = self.numbers.as_slice();
         let start = place * WIDTH;
         &numbers[start..start + WIDTH]
+    }
+
+    /// The records of all leads.
+    pub(crate) fn records(&self) -> &[LeadRecord]
+        ensures { result.now ≡ self.now.records }
+    {
+        &self.records
+    }
+
+    /// The numbers of the telling rows of all leads.
+    pub(crate) fn numbers(&self) -> &[u32]
+        ensures are { result.now ≡ self.now.numbers }
+        ensures all { length self.now.numbers ≡ length self.now.records * self.now.width }
+    {
+        &self.numbers
     }
 
     /// How many numbers each lead has: 2, 3, 4, 6, 8, 12, 16, 24, 32, 64 or 128.

@@ -10,6 +10,6 @@ use Rattle.cr_path.proofs.path.Path.comes_home.Goals as goal
 pub returns : goal.returns
 returns g c =
     let w = c.self.inside in
-    let at_end = c.last.ensures.is w.problem.now w.numbers.now w.steps w.next c.self.invariant.0.ends in
+    let at_end = c.last.ensures.is w.problem.now w.numbers w.steps w.next c.self.invariant.0.ends in
     subst (λ (v : PathParts). IsTrue (nat_eq c.last.result.home 1) ↔ (head_of v.problem (touch_of v.problem v.node) ≡ rounds v.problem.stage)) c.self.view_is
     (home_told w.problem.now w.steps (nat_eq c.last.result.home 1) at_end.home)

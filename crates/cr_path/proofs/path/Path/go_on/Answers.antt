@@ -23,7 +23,7 @@ go-requires g c = (
             let valid = subst (λ (v : PathParts). IsValid v.problem (child v.node c.args.step)) (sym c.self.view_is) c.requires.valid in
             let begun : w.next ≡ 0 = subst (λ (v : PathParts). v.next ≡ 0) (sym c.self.view_is) c.requires.begun in
             subst (λ (v : PathParts). AreUncut v.problem v.node (c.args.step + 1) c.without_below-left.result) c.self.view_is
-            (left_above p w.steps w.next c.last.result.left (few_steps p c.self.invariant.0.sound) (c.last.ensures.left p w.numbers.now w.steps w.next c.self.invariant.0.ends)
+            (left_above p w.steps w.next c.last.result.left (few_steps p c.self.invariant.0.sound) (c.last.ensures.left p w.numbers w.steps w.next c.self.invariant.0.ends)
             (c.args.step + 1) c.without_below-left.result (omega (arith, begun)) (omega (arith, step_known p w.steps c.args.step valid)) c.without_below-left.ensures.below c.without_below-left.ensures.others)),
       ),
     ),

@@ -31,7 +31,7 @@ go-requires g c = (
             let p = w.problem.now in
             let first = subst (λ (v : PathParts). IsFirst v.problem most_rows v.node v.next c.args.step) (sym c.self.view_is) c.requires in
             subst (λ (v : PathParts). AreUncut v.problem v.node (c.args.step + 1) c.without_step-left.result) c.self.view_is
-            (left_without p w.steps w.next c.last.result.left (few_steps p c.self.invariant.0.sound) (c.last.ensures.left p w.numbers.now w.steps w.next c.self.invariant.0.ends)
+            (left_without p w.steps w.next c.last.result.left (few_steps p c.self.invariant.0.sound) (c.last.ensures.left p w.numbers w.steps w.next c.self.invariant.0.ends)
             c.args.step c.without_step-left.result first c.without_step-left.ensures.is c.without_step-left.ensures.others)),
       ),
     ),
