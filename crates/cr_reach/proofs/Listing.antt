@@ -1,13 +1,14 @@
 -- The levels, listed one after another.
-use Rattle.std.proofs.Common.{◌≡◌, ◌≢◌, ℕ, zero, suc, ◌+◌, ◌-◌, ◌<◌, ◌≤◌, List, [], ◌∷◌, ◌++◌, length, drop, map, replicate, inl, inr, refl, sym, ap, ap₂, ◌∙◌, subst, arith, length-append}
+use Rattle.std.proofs.Common.{◌≡◌, ◌≢◌, ℕ, zero, suc, ◌+◌, ◌-◌, ◌*◌, ◌<◌, ◌≤◌, Bool, true, false, cond, List, [], ◌∷◌, ◌++◌, length, drop, map, replicate, inl, inr, refl, sym, ap, ap₂, ◌∙◌, subst, arith, length-append}
 use Rattle.std.specs.List.{range_with_len}
 use Rattle.std.proofs.Math.Seq.{drop-append_seam}
 use Rattle.std.proofs.lemmas.Bool.{cases_lt, cases_eq}
-use Rattle.std.proofs.lemmas.List.{length-replicate}
+use Rattle.std.proofs.lemmas.List.{length-replicate, length-drop}
+use Rattle.std.proofs.lemmas.List.FromFn.{length-map-range_with_len}
 use Rattle.std.proofs.lemmas.List.Elements.{All-nil, All-cons, All-contains, All-head, All-tail, All-drop, All-append, All-map, All-weaker}
 use Rattle.cr_row.specs.Rows.{rounds, product}
 use Rattle.cr_model.specs.Problems.{ProblemParts}
-use Rattle.cr_model.specs.Levels.{row_before, rows_before, new_rows, spread, level, up_to_level, HasRoom, depth}
+use Rattle.cr_model.specs.Levels.{row_before, rows_before, is_listed, new_rows, spread, level, up_to_level, HasRoom, depth}
 use Rattle.cr_model.proofs.Listing.{all_from_held}
 use Rattle.cr_model.proofs.NewRows.{new_rows_are}
 use Rattle.cr_leads.specs.Tables.{TableParts, lead_table, leads_counted}
@@ -15,7 +16,7 @@ use Rattle.cr_rowset.specs.Stacks.{StackParts}
 use Rattle.cr_rowset.specs.Pushing.{Pushes}
 use Rattle.cr_rowset.specs.declared.pushed.Pushed.{Pushed}
 use Rattle.cr_rowset.specs.declared.pushed.Pushed.TheVariants.{Fresh, Again, Full}
-use Rattle.cr_reach.specs.Tables.{levels_up_to, reach_to, reach_table}
+use Rattle.cr_reach.specs.Tables.{ReachParts, levels_up_to, reach_to, reach_table}
 use Rattle.cr_reach.specs.Spreading.{AreOfStage, LeadBack, products, IsGrown, IsWhole}
 use Rattle.cr_reach.specs.Filling.{IsUpTo, IsListed}
 
@@ -191,3 +192,62 @@ whole_table has_room is_greatest table inverses most deep start old new levels s
     ap₂ (λ (rows : List (List ℕ)) (leads : List ℕ). record { depth = deep; rows = rows; levels = leads })
     (ap (λ (s : StackParts). s.rows) whole.same ∙ before.all) before.leads
     ∙ ap (reach_to p) at
+
+-- of some rows no more are new than there are
+new_few : (seen rows : List (List ℕ)) → length (new_rows seen rows) ≤ length rows
+new_few seen [] = omega arith
+new_few seen (row ∷ rows) =
+    let rest = new_few (row ∷ seen) rows in
+    by (is_listed seen row) (omega (arith, rest))
+  where
+    by : (old : Bool) → length (new_rows (row ∷ seen) rows) ≤ length rows → length (cond old [] (row ∷ []) ++ new_rows (row ∷ seen) rows) ≤ suc (length rows)
+    by true few = omega (arith, few)
+    by false few = omega (arith, few)
+
+-- one lead before some rows there is one for each of them and each step
+before_counted : (p : ProblemParts) (rows : List (List ℕ)) → length (rows_before p rows) ≡ length rows * length p.leads
+before_counted p [] = omega arith
+before_counted p (row ∷ rows) = omega (
+  arith,
+  length-append (map (row_before p row) (range_with_len 0 (length p.leads))) (rows_before p rows),
+  length-map-range_with_len (row_before p row) 0 (length p.leads),
+  before_counted p rows,
+)
+
+empty_where_not_some : (rows : List (List ℕ)) → (rows ≢ [] → ⊥) → rows ≡ []
+empty_where_not_some [] none = refl
+empty_where_not_some (row ∷ rows) none = absurd (none (λ same. let gone : length (row ∷ rows) ≡ 0 = ap length same in absurd (omega (arith, gone))))
+
+-- where there is room for all rows before those of the last level, and none was pushed, there are none
+pub none_further : ((p : ProblemParts) (most : ℕ) → 1 ≤ most → HasRoom p most (depth p most))
+    → ((p : ProblemParts) (most leads : ℕ) → HasRoom p most leads → leads ≤ depth p most)
+    → (table : TableParts) (inverses : List (List ℕ)) (most deep start : ℕ) (old new : StackParts) (levels : List ℕ)
+    → 1 ≤ most → LeadBack table (length table.leads) inverses → IsListed table most deep old levels start
+    → IsWhole old (products inverses (drop start old.rows)) new
+    → (p : ProblemParts) → table ≡ lead_table p → length old.rows + (length old.rows - start) * length p.leads ≤ most → level p (depth p most + 1) ≡ []
+none_further has_room is_greatest table inverses most deep start old new levels some back listed whole p table_is roomy =
+    let before = listed.of_problem p table_is in
+    let newest = new_rows old.rows (products inverses (drop start old.rows)) in
+    let level_is : newest ≡ level p (suc deep) = next_is table p inverses deep start old.rows levels table_is back listed.staged before in
+    let counted : length (rows_before p (level p deep)) ≡ (length old.rows - start) * length p.leads =
+    before_counted p (level p deep) ∙ ap (λ (rows : List (List ℕ)). length rows * length p.leads) (sym before.last) ∙ ap (λ n. n * length p.leads) (length-drop start old.rows) in
+    let few : length newest ≤ (length old.rows - start) * length p.leads =
+    (let e : length newest ≡ length (new_rows (up_to_level p deep) (rows_before p (level p deep))) = ap length (level_is ∙ level_next p deep) in
+    omega (arith, e, counted, new_few (up_to_level p deep) (rows_before p (level p deep)))) in
+    let none : newest ≡ [] = empty_where_not_some newest (λ there. absurd (omega (arith, whole.full there, listed.room, length-append old.rows newest, few, roomy))) in
+    let at : deep ≡ depth p most =
+    ap (λ (t : ReachParts). t.depth) (whole_table has_room is_greatest table inverses most deep start old new levels some back listed whole p table_is) in
+    ap (level p) (omega (arith, at)) ∙ sym level_is ∙ none
+
+-- and a table with more room is the same
+pub same_depth : ((p : ProblemParts) (most : ℕ) → 1 ≤ most → HasRoom p most (depth p most))
+    → ((p : ProblemParts) (most leads : ℕ) → HasRoom p most leads → leads ≤ depth p most)
+    → (p : ProblemParts) (few most : ℕ) → 1 ≤ few → few ≤ most → level p (depth p few + 1) ≡ [] → reach_table p few ≡ reach_table p most
+same_depth has_room is_greatest p few most some within none =
+    let room = has_room p few some in
+    let low : depth p few ≤ depth p most = is_greatest p most (depth p few) (record { rows = room.rows; few = omega (arith, room.few, within) }) in
+    let at : depth p few ≡ depth p most = elim (cases_lt (depth p few) (depth p most)) [
+      | inl beyond ↦ absurd ((has_room p most (omega (arith, some, within))).rows (depth p few + 1) (omega (arith, beyond)) none)
+      | inr behind ↦ omega (arith, behind, low)
+    ] in
+    ap (reach_to p) at

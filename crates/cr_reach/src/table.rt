@@ -1,8 +1,8 @@
 //! Reach tables.
 
-ghost use Rattle.std.specs.Prelude.{◌≡◌, ◌≢◌, ℕ, ◌-◌, ◌<◌, ◌≤◌, ◌^◌, ◌++◌, length, replicate, IfOk};
+ghost use Rattle.std.specs.Prelude.{◌≡◌, ◌≢◌, ℕ, ◌+◌, ◌-◌, ◌*◌, ◌<◌, ◌≤◌, ◌^◌, ◌++◌, true, [], length, replicate, IfOk};
 ghost use Rattle.cr_model.specs.Problems.{ProblemParts};
-ghost use Rattle.cr_model.specs.Levels.{depth, at_least};
+ghost use Rattle.cr_model.specs.Levels.{depth, level, at_least};
 ghost use Rattle.cr_leads.specs.Tables.{lead_table};
 ghost use Rattle.cr_reach.specs.Tables.{reach_table};
 
@@ -14,6 +14,9 @@ use cr_row::{NoMemory, Row, product_of_rows, rounds_is_neutral};
 use cr_rowset::RowStack;
 use std::alloc::Global;
 use std::marker::Model;
+
+// For so many rows there is room at first. Most problems have fewer heads, and room for many takes a while to clear.
+const FEW_ROWS: u64 = 8_192;
 
 /// The rows that are few leads from rounds, each with the least number of leads that lead home from it.
 ///
@@ -45,27 +48,14 @@ impl ReachTable {
         requires few { most_rows < 2 ^ 32 }
         ensures { IfOk result (λ table. (p : ProblemParts) → leads.now ≡ lead_table p → table ≡ reach_table p most_rows) }
     {
-        rounds_is_neutral();
-        product_of_rows();
         the_depth_is_greatest();
-        let inverses = inverse_heads(alloc, leads)?;
-        let mut rows = RowStack::with_room(alloc, most_rows)?;
-        rows.push(Row::rounds(leads.stage()));
-        let mut levels = Vec::new(alloc);
-        levels.push(0)?;
-        let mut depth = 0;
-        let mut start = 0;
-        while push_level(&mut rows, start, &inverses) {
-            start = levels.len() as u64;
-            depth += 1;
-            fill(&mut levels, rows.len(), depth)?;
+        let few = most_rows.min(FEW_ROWS);
+        let listing = list_levels(alloc, leads, few)?;
+        if listing.is_all || few == most_rows {
+            return Ok(listing.table);
         }
-        let listed = fitted(alloc, &rows)?;
-        Ok(ReachTable {
-            rows: listed,
-            levels,
-            depth,
-        })
+        let listing = list_levels(alloc, leads, most_rows)?;
+        Ok(listing.table)
     }
 
     /// The greatest level that is listed.
@@ -88,6 +78,55 @@ impl ReachTable {
             None => self.depth + 1,
         }
     }
+}
+
+// A table, and whether it is known that it has all rows from which leads lead home.
+#[derive(Drop)]
+struct Listing {
+    table: ReachTable,
+    is_all: bool,
+}
+
+// The levels that hold at most so many rows together.
+fn list_levels(alloc: Global, leads: &LeadTable, most_rows: u64) -> Result<Listing, NoMemory>
+    requires some { 1 ≤ most_rows }
+    requires few { most_rows < 2 ^ 32 }
+    ensures table { IfOk result (λ listing. (p : ProblemParts) → leads.now ≡ lead_table p → listing.table ≡ reach_table p most_rows) }
+    ensures all { IfOk result (λ listing. listing.is_all ≡ true → (p : ProblemParts) → leads.now ≡ lead_table p → level p (depth p most_rows + 1) ≡ []) }
+{
+    rounds_is_neutral();
+    product_of_rows();
+    the_depth_is_greatest();
+    let inverses = inverse_heads(alloc, leads)?;
+    let mut rows = RowStack::with_room(alloc, most_rows)?;
+    rows.push(Row::rounds(leads.stage()));
+    let mut levels = Vec::new(alloc);
+    levels.push(0)?;
+    let mut depth = 0;
+    let mut start = 0;
+    while push_level(&mut rows, start, &inverses) {
+        start = levels.len() as u64;
+        depth += 1;
+        fill(&mut levels, rows.len(), depth)?;
+    }
+    let number = rows.len();
+    let steps = leads.count();
+    let is_all = has_room_for_all(number, number - start, steps, most_rows);
+    let table = ReachTable {
+        rows: fitted(alloc, &rows)?,
+        levels,
+        depth,
+    };
+    Ok(Listing { table, is_all })
+}
+
+// Whether there is room for so many rows, and for one more from each of the last ones and each step.
+fn has_room_for_all(rows: u64, last: u64, steps: u8, room: u64) -> bool
+    requires rows { rows < 2 ^ 32 }
+    requires last { last < 2 ^ 32 }
+    ensures { result ≡ true → rows + last * steps ≤ room }
+{
+    rows + last * u64::from(steps) <= room
 }
 
 // The same rows in a stack that has room for no more, so that a look-up in few rows touches little memory.
