@@ -1,5 +1,5 @@
 -- All steps asked at once.
-use Rattle.std.proofs.Common.{◌≡◌, ℕ, zero, suc, ◌+◌, ◌<◌, ◌≤◌, Bool, true, false, cond, ◌||◌, nat_eq, pos, List, [], ◌∷◌, length, get_or, map, take, Option, None, refl, sym, ap, ap₂, subst, ◌∙◌, arith}
+use Rattle.std.proofs.Common.{◌≡◌, ℕ, zero, suc, ◌+◌, ◌<◌, ◌≤◌, Bool, true, false, cond, ◌||◌, nat_eq, pos, List, [], ◌∷◌, length, get_or, map, take, None, refl, sym, ap, ap₂, ◌∙◌, arith}
 use Rattle.std.specs.List.{list_any}
 use Rattle.std.proofs.lemmas.Bool.{false≢true}
 use Rattle.std.proofs.lemmas.List.{length-map, get_or-map}
@@ -14,7 +14,7 @@ use Rattle.cr_query.specs.Gauges.{at_number, raised, is_out, is_com_out, hopeles
 use Rattle.cr_query.specs.Hits.{mark_steps, letter_steps}
 use Rattle.cr_model.specs.Dead.{is_too_many, is_too_few}
 use Rattle.cr_query.specs.Meters.{marked, lettered, fitted, has_too_many_leads, has_too_few_leads, has_too_few_rows, is_hopeless_by_leads}
-use Rattle.cr_query.specs.Sets.{has_step, steps_of}
+use Rattle.cr_query.specs.Sets.{has_step}
 use Rattle.cr_query.proofs.StepSets.{steps_are}
 use Rattle.cr_query.proofs.Tellings.{in_order, many_in_order}
 

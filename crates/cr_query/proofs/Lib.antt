@@ -5,6 +5,7 @@ pub mod Halves
 pub mod Sizes
 pub mod Edits
 pub mod Moves
+pub mod Stacks
 pub mod Raising
 pub mod Shares
 pub mod LookUps

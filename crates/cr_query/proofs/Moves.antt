@@ -1,6 +1,7 @@
 -- A meter's node, move by move.
-use Rattle.std.proofs.Common.{◌≡◌, ℕ, ◌-◌, List, [], ◌∷◌, ◌++◌, length, map, take, take_at, arith, length-append, Option, Some, refl, sym, ap, ◌∙◌, append-nil}
-use Rattle.std.proofs.lemmas.List.{append_assoc}
+use Rattle.std.proofs.Common.{◌≡◌, ℕ, ◌+◌, ◌-◌, ◌≤◌, List, [], ◌∷◌, ◌++◌, length, map, take, take_at, arith, length-append, length-take, Option, Some, refl, sym, ap, ◌∙◌, subst, inl, inr, append-nil}
+use Rattle.std.proofs.lemmas.Bool.{cases_eq}
+use Rattle.std.proofs.lemmas.List.{append_assoc, take_all, take-take, take-append-le}
 use Rattle.cr_model.specs.Problems.{ProblemParts}
 use Rattle.cr_model.specs.Sizes.{child}
 use Rattle.cr_query.specs.Meters.{parent, meter_from, node_after, node_after_all, moved_by_all}
@@ -28,3 +29,18 @@ pub parent_of_child : (node : List ℕ) (step : ℕ) → parent (child node step
 parent_of_child node step =
     let last : length (node ++ step ∷ []) - 1 ≡ length node = omega (arith, length-append node (step ∷ [])) in
     ap (λ n. take n (node ++ step ∷ [])) last ∙ take_at node (step ∷ []) (length node) refl
+
+-- what holds of each front of a node, and of a child, holds of each front of the child, and of the node's parent
+pub fronts_more : (P : List ℕ → Type 0) (node : List ℕ) (step : ℕ) → ((k : ℕ) → k ≤ length node → P (take k node)) → P (child node step)
+    → (k : ℕ) → k ≤ length (child node step) → P (take k (child node step))
+fronts_more P node step before here k low =
+    let long : length (node ++ step ∷ []) ≡ length node + 1 = omega (arith, length-append node (step ∷ [])) in
+    elim (cases_eq k (length node + 1)) [
+      | inl last ↦ subst P (sym (take_all k (node ++ step ∷ []) (omega (arith, last, long)))) here
+      | inr other ↦ let below : k ≤ length node = omega (arith, low, other, long) in subst P (sym (take-append-le k node (step ∷ []) below)) (before k below)
+    ]
+
+pub fronts_fewer : (P : List ℕ → Type 0) (node : List ℕ) → ((k : ℕ) → k ≤ length node → P (take k node)) → (k : ℕ) → k ≤ length (parent node) → P (take k (parent node))
+fronts_fewer P node all k low =
+    let short : k ≤ length node - 1 = omega (arith, low, length-take (length node - 1) node) in
+    subst P (sym (take-take k (length node - 1) node short)) (all k (omega (arith, short)))

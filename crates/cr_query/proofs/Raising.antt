@@ -1,5 +1,5 @@
--- What a node's counts become with one lead more, and with one fewer.
-use Rattle.std.proofs.Common.{◌≡◌, ℕ, ◌+◌, ◌-◌, ◌<◌, cond, List, [], ◌∷◌, ◌++◌, length, get_or, map, All, nat_eq, refl, sym, ap, ap₂, ◌∙◌, arith}
+-- What a node's counts become with one lead more.
+use Rattle.std.proofs.Common.{◌≡◌, ℕ, ◌+◌, ◌<◌, cond, List, [], ◌∷◌, ◌++◌, length, get_or, map, All, nat_eq, refl, sym, ap, ap₂, ◌∙◌, arith}
 use Rattle.std.specs.List.{zip}
 use Rattle.std.proofs.lemmas.List.Elements.{All-head, All-tail}
 use Rattle.std.proofs.lemmas.List.FromFn.{get_or-map-range_with_len, length-map-range_with_len}
@@ -15,8 +15,7 @@ use Rattle.cr_model.specs.Dead.{parts_of}
 use Rattle.cr_model.specs.Right.{FitsStage}
 use Rattle.cr_model.specs.Sizes.{child}
 use Rattle.cr_query.specs.declared.kinds.Kind.{Kind}
-use Rattle.cr_query.specs.declared.fittings.Fitting.{Fitting}
-use Rattle.cr_query.specs.Gauges.{raised, lowered, with_rows, fitting_rows, rows_more, rows_fewer, counted_more, counted_fewer}
+use Rattle.cr_query.specs.Gauges.{RowGauge, raised, with_rows, fitting_rows, rows_more, counted_more}
 use Rattle.cr_query.specs.Kinds.{kind_of}
 use Rattle.cr_query.specs.Meters.{mark_gauge, letter_gauge, fitting_of, marked, lettered, fitted, kinds_of, change_between}
 use Rattle.cr_query.proofs.Fitting.{count_fitting, products_long}
@@ -35,9 +34,6 @@ zip_same f g n h same (x ∷ xs) = ap₂ (λ z zs. z ∷ zs) (same x) (zip_same 
 any_item : {X : Type 0} (xs : List X) → All (λ _. Unit {0}) xs
 any_item xs = λ k d inside. tt {0}
 
-more_fewer : (n h m : ℕ) → m ≡ n + h → m - h ≡ n
-more_fewer n h m is = omega arith
-
 module _ (p : ProblemParts) (node : List ℕ) (step : ℕ) where
   marks_pushed : (mark : ℕ) → leads_marked p mark (child node step) ≡ leads_marked p mark node + cond (nat_eq (mark_of p step) mark) 1 0
   marks_pushed mark = sum_by_push (λ s. cond (nat_eq (mark_of p s) mark) 1 0) node step
@@ -54,15 +50,6 @@ module _ (p : ProblemParts) (node : List ℕ) (step : ℕ) where
   letters_raised counts = map_same (raised (letter_of p step)) (lettered p node) (lettered p (child node step)) (λ _. Unit {0})
       (λ count _. ap (λ n. letter_gauge (parts_of p) n count) (sym (letters_pushed count.letter))) counts (any_item counts)
 
-  -- and back
-  pub marks_lowered : (counts : List Count) → map (lowered (mark_of p step)) (map (marked p (child node step)) counts) ≡ map (marked p node) counts
-  marks_lowered counts = map_same (lowered (mark_of p step)) (marked p (child node step)) (marked p node) (λ _. Unit {0})
-      (λ count _. ap (λ n. mark_gauge (parts_of p) n count) (more_fewer (leads_marked p count.mark node) (cond (nat_eq (mark_of p step) count.mark) 1 0) _ (marks_pushed count.mark))) counts (any_item counts)
-
-  pub letters_lowered : (counts : List MethodCount) → map (lowered (letter_of p step)) (map (lettered p (child node step)) counts) ≡ map (lettered p node) counts
-  letters_lowered counts = map_same (lowered (letter_of p step)) (lettered p (child node step)) (lettered p node) (λ _. Unit {0})
-      (λ count _. ap (λ n. letter_gauge (parts_of p) n count) (more_fewer (leads_lettered p count.letter node) (cond (nat_eq (letter_of p step) count.letter) 1 0) _ (letters_pushed count.letter))) counts (any_item counts)
-
   -- the rows of a lead
   module _ (rows : List (List ℕ)) (joined : rows_of p (child node step) ≡ rows_of p node ++ rows) where
     pub fitting_pushed : (pattern : PatternParts)
@@ -74,22 +61,16 @@ module _ (p : ProblemParts) (node : List ℕ) (step : ℕ) where
     -- where it is known how many fit
     pub counted_raised : (patterns : List PatternParts)
         → counted_more (map (fitted p node) patterns) (map (λ (pattern : PatternParts). rows_fitting pattern.cells rows) patterns) ≡ map (fitted p (child node step)) patterns
-    counted_raised patterns = zip_same (λ (pair : Fitting × ℕ). with_rows (pair.0.number + pair.1) pair.0) (fitted p node)
+    counted_raised patterns = zip_same (λ (pair : RowGauge × ℕ). with_rows (pair.0.number + pair.1) pair.0) (fitted p node)
         (λ (pattern : PatternParts). rows_fitting pattern.cells rows) (fitted p (child node step))
         (λ pattern. ap (λ n. fitting_of p.stage n pattern) (sym (fitting_pushed pattern))) patterns
-
-    pub counted_lowered : (patterns : List PatternParts)
-        → counted_fewer (map (fitted p (child node step)) patterns) (map (λ (pattern : PatternParts). rows_fitting pattern.cells rows) patterns) ≡ map (fitted p node) patterns
-    counted_lowered patterns = zip_same (λ (pair : Fitting × ℕ). with_rows (pair.0.number - pair.1) pair.0) (fitted p (child node step))
-        (λ (pattern : PatternParts). rows_fitting pattern.cells rows) (fitted p node)
-        (λ pattern. ap (λ n. fitting_of p.stage n pattern) (more_fewer (rows_fitting pattern.cells (rows_of p node)) (rows_fitting pattern.cells rows) _ (fitting_pushed pattern))) patterns
 
   -- and where the lead is rung from the node's head
   module _ (head : List ℕ) (lead : List (List ℕ))
       (joined : rows_of p (child node step) ≡ rows_of p node ++ map (product head) lead)
       (long : All (λ row. length row ≡ p.stage) lead) where
     rows_pushed : (pattern : PatternParts) → FitsStage p.stage pattern.cells
-        → rows_fitting pattern.cells (rows_of p (child node step)) ≡ rows_fitting pattern.cells (rows_of p node) + fitting_rows head lead (fitted p node pattern)
+        → rows_fitting pattern.cells (rows_of p (child node step)) ≡ rows_fitting pattern.cells (rows_of p node) + fitting_rows head lead (fitted p node pattern).shape
     rows_pushed pattern fitting =
         fitting_pushed (map (product head) lead) joined pattern
         ∙ ap (λ n. rows_fitting pattern.cells (rows_of p node) + n) (sym (count_fitting p.stage pattern.cells (map (product head) lead) (products_long p.stage head lead long) fitting))
@@ -98,11 +79,6 @@ module _ (p : ProblemParts) (node : List ℕ) (step : ℕ) where
         → map (rows_more head lead) (map (fitted p node) patterns) ≡ map (fitted p (child node step)) patterns
     patterns_raised patterns all = map_same (rows_more head lead) (fitted p node) (fitted p (child node step)) (λ (pattern : PatternParts). FitsStage p.stage pattern.cells)
         (λ pattern fitting. ap (λ n. fitting_of p.stage n pattern) (sym (rows_pushed pattern fitting))) patterns all
-
-    pub patterns_lowered : (patterns : List PatternParts) → All (λ (pattern : PatternParts). FitsStage p.stage pattern.cells) patterns
-        → map (rows_fewer head lead) (map (fitted p (child node step)) patterns) ≡ map (fitted p node) patterns
-    patterns_lowered patterns all = map_same (rows_fewer head lead) (fitted p (child node step)) (fitted p node) (λ (pattern : PatternParts). FitsStage p.stage pattern.cells)
-        (λ pattern fitting. ap (λ n. fitting_of p.stage n pattern) (more_fewer (rows_fitting pattern.cells (rows_of p node)) (fitting_rows head lead (fitted p node pattern)) _ (rows_pushed pattern fitting))) patterns all
 
 -- the method of a kind
 method_at : (p : ProblemParts) (kinds : List Kind) (step : ℕ) → kinds ≡ kinds_of p → step < length p.leads

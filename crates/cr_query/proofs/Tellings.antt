@@ -32,7 +32,7 @@ in_pairs false true false d = refl
 in_pairs false false c d = refl
 
 -- one of two tests
-any_either : {X : Type 0} (f g : X → Bool) (xs : List X) → list_any (λ x. f x || g x) xs ≡ (list_any f xs || list_any g xs)
+pub any_either : {X : Type 0} (f g : X → Bool) (xs : List X) → list_any (λ x. f x || g x) xs ≡ (list_any f xs || list_any g xs)
 any_either f g [] = refl
 any_either f g (x ∷ xs) = ap (λ b. (f x || g x) || b) (any_either f g xs) ∙ in_pairs (f x) (g x) (list_any f xs) (list_any g xs)
 

@@ -9,9 +9,8 @@ use Rattle.cr_model.specs.Limits.{most_leads}
 use Rattle.cr_query.specs.declared.kinds.Kind.{Kind}
 use Rattle.cr_query.specs.declared.numbers.Numbers.{Numbers}
 use Rattle.cr_query.specs.declared.gauges.Gauge.{Gauge}
-use Rattle.cr_query.specs.declared.fittings.Fitting.{Fitting}
 use Rattle.cr_query.specs.Sets.{has_step}
-use Rattle.cr_query.specs.Shapes.{has_shape}
+use Rattle.cr_query.specs.Shapes.{ShapeParts, has_shape}
 
 -- how many leads each of so many equal parts has at least where all together have no fewer than a limit asks for
 abbrev pub fewest : ℕ → ℤ → ℕ
@@ -28,12 +27,9 @@ hit of gauge = cond (nat_eq of gauge.of) 1 0
 abbrev pub at_number : ℕ → Gauge → Gauge
 at_number number gauge = record { of = gauge.of; least = gauge.least; beyond = gauge.beyond; number = number }
 
--- a gauge after one lead more with this mark or letter, and after one fewer
+-- a gauge after one lead more with this mark or letter
 abbrev pub raised : ℕ → Gauge → Gauge
 raised of gauge = at_number (gauge.number + hit of gauge) gauge
-
-abbrev pub lowered : ℕ → Gauge → Gauge
-lowered of gauge = at_number (gauge.number - hit of gauge) gauge
 
 -- the number is beyond what is allowed, or with so many more still below the least, or one of both
 abbrev pub is_above : Gauge → Bool
@@ -93,40 +89,33 @@ pub record HasSmallNumbers (numbers : Numbers) : Type 0 where
   pub short : numbers.most ≤ 12000
   pub short_part : numbers.part_most ≤ 12000
 
--- and on those of a node's leads
-pub record HasSmallCounts (marks letters : List Gauge) (length_now changes : ℕ) : Type 0 where
-  pub few_marked : AreFew marks
-  pub few_lettered : AreFew letters
-  pub short_now : length_now ≤ 131072
-  pub few_changes : changes ≤ most_leads
+-- the shape of a pattern, its limits, and how many rows fit
+pub record RowGauge : Type 0 where
+  pub shape : ShapeParts
+  pub min : ℤ
+  pub max : ℤ
+  pub number : ℕ
 
--- and on those of its rows
-abbrev pub HasFewRows : List Fitting → Type 0
-HasFewRows patterns = All (λ pattern. pattern.number ≤ 1048576) patterns
+abbrev pub with_rows : ℕ → RowGauge → RowGauge
+with_rows number gauge = record { shape = gauge.shape; min = gauge.min; max = gauge.max; number = number }
 
--- the same of patterns, which count rows
-abbrev pub with_rows : ℕ → Fitting → Fitting
-with_rows number fitting = record { shape = fitting.shape; min = fitting.min; max = fitting.max; number = number }
+-- the numbers are no more than the rows of a calling
+abbrev pub HasFewRows : List RowGauge → Type 0
+HasFewRows gauges = All (λ gauge. gauge.number ≤ 1048576) gauges
 
--- so many rows more, or fewer, for each pattern
-abbrev pub counted_more : List Fitting → List ℕ → List Fitting
-counted_more fittings rows = map (λ pair. with_rows (pair.0.number + pair.1) pair.0) (zip fittings rows)
+-- so many rows more for each pattern
+abbrev pub counted_more : List RowGauge → List ℕ → List RowGauge
+counted_more gauges rows = map (λ pair. with_rows (pair.0.number + pair.1) pair.0) (zip gauges rows)
 
-abbrev pub counted_fewer : List Fitting → List ℕ → List Fitting
-counted_fewer fittings rows = map (λ pair. with_rows (pair.0.number - pair.1) pair.0) (zip fittings rows)
+-- how many products of a head with the rows of a lead have a shape
+abbrev pub fitting_rows : List ℕ → List (List ℕ) → ShapeParts → ℕ
+fitting_rows head lead shape = count_by (has_shape shape) (map (product head) lead)
 
--- how many products of a head with the rows of a lead fit
-abbrev pub fitting_rows : List ℕ → List (List ℕ) → Fitting → ℕ
-fitting_rows head lead fitting = count_by (has_shape fitting.shape) (map (product head) lead)
+abbrev pub rows_more : List ℕ → List (List ℕ) → RowGauge → RowGauge
+rows_more head lead gauge = with_rows (gauge.number + fitting_rows head lead gauge.shape) gauge
 
-abbrev pub rows_more : List ℕ → List (List ℕ) → Fitting → Fitting
-rows_more head lead fitting = with_rows (fitting.number + fitting_rows head lead fitting) fitting
+abbrev pub has_more_rows : RowGauge → Bool
+has_more_rows gauge = int_lt gauge.max (pos gauge.number)
 
-abbrev pub rows_fewer : List ℕ → List (List ℕ) → Fitting → Fitting
-rows_fewer head lead fitting = with_rows (fitting.number - fitting_rows head lead fitting) fitting
-
-abbrev pub has_more_rows : Fitting → Bool
-has_more_rows fitting = int_lt fitting.max (pos fitting.number)
-
-abbrev pub has_fewer_rows : ℕ → Fitting → Bool
-has_fewer_rows more fitting = int_lt (pos (fitting.number + more)) fitting.min
+abbrev pub has_fewer_rows : ℕ → RowGauge → Bool
+has_fewer_rows more gauge = int_lt (pos (gauge.number + more)) gauge.min

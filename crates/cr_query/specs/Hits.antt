@@ -1,5 +1,5 @@
 -- Which steps each limit counts.
-use Rattle.std.specs.Prelude.{◌≡◌, ℕ, ◌<◌, List, length, map, nat_eq, None, IfSome}
+use Rattle.std.specs.Prelude.{◌≡◌, ℕ, ◌<◌, length, map, nat_eq, None, IfSome}
 use Rattle.cr_model.specs.declared.query.Count.{Count}
 use Rattle.cr_model.specs.declared.query.MethodCount.{MethodCount}
 use Rattle.cr_model.specs.Problems.{ProblemParts}

@@ -3,7 +3,9 @@ pub mod Shapes
 pub mod Kinds
 pub mod Meeting
 pub mod Keeping
+pub mod Fronts
 pub mod Gauges
+pub mod Tallies
 pub mod Meters
 pub mod Sets
 pub mod Hits

@@ -7,6 +7,7 @@ use Rattle.cr_model.specs.declared.query.MethodCount.{MethodCount}
 use Rattle.cr_model.specs.Problems.{PatternParts, ProblemParts}
 use Rattle.cr_model.specs.Callings.{shortest, length_of, rows_of, head_of, HasSteps}
 use Rattle.cr_model.specs.Dead.{parts_of, leads_left, above_com, below_com}
+use Rattle.cr_model.specs.Limits.{most_leads}
 use Rattle.cr_model.specs.Queries.{cap, part_cap, leads_marked, leads_lettered, rows_fitting, changes_of_method}
 use Rattle.cr_model.specs.Sizes.{child}
 use Rattle.cr_model.specs.Sound.{IsSound}
@@ -15,9 +16,10 @@ use Rattle.cr_query.specs.declared.gauges.Gauge.{Gauge}
 use Rattle.cr_query.specs.declared.fittings.Fitting.{Fitting}
 use Rattle.cr_query.specs.declared.numbers.Numbers.{Numbers}
 use Rattle.cr_query.specs.declared.leads.LeadCounts.{LeadCounts}
-use Rattle.cr_query.specs.Gauges.{fewest, too_many, AreRooms}
+use Rattle.cr_query.specs.Gauges.{RowGauge, fewest, too_many, AreFew, AreRooms}
 use Rattle.cr_query.specs.Kinds.{kind_of}
 use Rattle.cr_query.specs.Shapes.{shape_of}
+use Rattle.cr_query.specs.Tallies.{gauges_at, fittings_at}
 
 pub record MeterParts : Type 0 where
   pub problem : ProblemParts
@@ -60,7 +62,7 @@ mark_gauge parts number count = record { of = count.mark; least = fewest parts c
 abbrev pub letter_gauge : ℕ → ℕ → MethodCount → Gauge
 letter_gauge parts number count = record { of = count.letter; least = fewest parts count.min; beyond = too_many parts count.max; number = number }
 
-abbrev pub fitting_of : ℕ → ℕ → PatternParts → Fitting
+abbrev pub fitting_of : ℕ → ℕ → PatternParts → RowGauge
 fitting_of stage number pattern = record { shape = shape_of stage pattern.cells; min = pattern.min; max = pattern.max; number = number }
 
 -- the same at a node
@@ -70,7 +72,7 @@ marked p node count = mark_gauge (parts_of p) (leads_marked p count.mark node) c
 abbrev pub lettered : ProblemParts → List ℕ → MethodCount → Gauge
 lettered p node count = letter_gauge (parts_of p) (leads_lettered p count.letter node) count
 
-abbrev pub fitted : ProblemParts → List ℕ → PatternParts → Fitting
+abbrev pub fitted : ProblemParts → List ℕ → PatternParts → RowGauge
 fitted p node pattern = fitting_of p.stage (rows_fitting pattern.cells (rows_of p node)) pattern
 
 -- the kinds of all steps
@@ -97,19 +99,47 @@ pub record IsCompiled (p : ProblemParts) (kinds : List Kind) (numbers : Numbers)
   pub found : HasNumbers p numbers
   pub table : AreRooms numbers rooms
 
--- what is counted of a node's leads
-pub record IsCounted (p : ProblemParts) (node : List ℕ) (counts : LeadCounts) : Type 0 where
+-- what is counted of the leads of a front of a node
+pub record IsCounted (p : ProblemParts) (front : List ℕ) (counts : LeadCounts) : Type 0 where
+  pub by_mark : gauges_at (length front) counts.marks.items ≡ map (marked p front) p.query.counts
+  pub by_letter : gauges_at (length front) counts.letters.items ≡ map (lettered p front) p.query.method_counts
+  pub long : get_or counts.lengths (length front) 0 ≡ length_of p front
+  pub changed : get_or counts.changes (length front) 0 ≡ changes_of_method p front
+
+-- and of a node: of each of its fronts
+pub record AreCounted (p : ProblemParts) (node : List ℕ) (counts : LeadCounts) : Type 0 where
   pub node_is : counts.steps.items ≡ node
   pub steps : HasSteps p node
   pub few : length node ≤ 1024
-  pub by_mark : counts.marks.items ≡ map (marked p node) p.query.counts
-  pub by_letter : counts.letters.items ≡ map (lettered p node) p.query.method_counts
-  pub long : counts.length ≡ length_of p node
-  pub changed : counts.changes ≡ changes_of_method p node
+  pub fronts : (k : ℕ) → k ≤ length node → IsCounted p (take k node) counts
 
--- and of its rows
+-- the rows of a front, and of a node
 abbrev pub HasFittings : ProblemParts → List ℕ → List Fitting → Type 0
-HasFittings p node patterns = patterns ≡ map (fitted p node) p.query.patterns
+HasFittings p front patterns = fittings_at (length front) patterns ≡ map (fitted p front) p.query.patterns
+
+abbrev pub HaveFittings : ProblemParts → List ℕ → List Fitting → Type 0
+HaveFittings p node patterns = (k : ℕ) → k ≤ length node → HasFittings p (take k node) patterns
+
+-- what is counted of the node itself
+abbrev pub marks_now : LeadCounts → List Gauge
+marks_now counts = gauges_at (length counts.steps.items) counts.marks.items
+
+abbrev pub letters_now : LeadCounts → List Gauge
+letters_now counts = gauges_at (length counts.steps.items) counts.letters.items
+
+abbrev pub length_now : LeadCounts → ℕ
+length_now counts = get_or counts.lengths (length counts.steps.items) 0
+
+abbrev pub changes_now : LeadCounts → ℕ
+changes_now counts = get_or counts.changes (length counts.steps.items) 0
+
+-- bounds on these
+pub record AreSmall (counts : LeadCounts) : Type 0 where
+  pub few_steps : length counts.steps.items ≤ most_leads
+  pub few_marked : AreFew (marks_now counts)
+  pub few_lettered : AreFew (letters_now counts)
+  pub short : length_now counts ≤ 131072
+  pub few_changes : changes_now counts ≤ most_leads
 
 -- how many rows of a lead fit each pattern, where the lead is rung after a node
 abbrev pub rows_fitting_after : ProblemParts → List ℕ → ℕ → List ℕ

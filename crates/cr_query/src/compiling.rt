@@ -3,12 +3,14 @@
 ghost use Rattle.std.specs.Prelude.{◌≡◌, ◌<◌, ◌≤◌, ℕ, length, map, IfOk};
 ghost use Rattle.cr_model.specs.Right.{FitsStage, pattern_at};
 ghost use Rattle.cr_query.specs.Meters.{kinds_of, mark_gauge, letter_gauge, fitting_of};
+ghost use Rattle.cr_query.specs.Tallies.{at_front, gauges_at, fitting_at, fittings_at};
 
 use crate::fittings::Fitting;
-use crate::gauges::Gauge;
+use crate::fronts::Fronts;
 use crate::kinds::{Kind, kind_of};
 use crate::limits::{fewest, too_many};
 use crate::shape::Shape;
+use crate::tallies::Tally;
 use cr_model::{Count, MethodCount, Pattern, Problem};
 use cr_row::{NoMemory, Stage};
 use std::alloc::Global;
@@ -33,38 +35,54 @@ pub fn step_count(problem: &Problem) -> u8
     problem.leads().len() as u8
 }
 
-/// The gauges of counts of marks in so many parts, at no leads. Err where no memory is left.
-pub fn marks_of(alloc: Global, counts: &[Count], parts: u64) -> Result<Vec<Gauge>, NoMemory>
+/// The limits of counts of marks in so many parts, at no leads. Err where no memory is left.
+pub fn marks_of(alloc: Global, counts: &[Count], parts: u64) -> Result<Vec<Tally>, NoMemory>
     requires { 1 ≤ parts }
-    ensures { IfOk result (λ gauges. gauges.items ≡ map (mark_gauge parts 0) counts.now) }
+    ensures { IfOk result (λ tallies. gauges_at 0 tallies.items ≡ map (mark_gauge parts 0) counts.now) }
 {
-    let mut gauges = Vec::with_capacity(alloc, counts.len())?;
+    let mut tallies = Vec::with_capacity(alloc, counts.len())?;
     for count in counts {
-        gauges.push(Gauge {
-            of: count.mark,
-            least: fewest(parts, count.min),
-            beyond: too_many(parts, count.max),
-            number: 0,
-        })?;
+        tallies.push(mark_tally(alloc, *count, parts)?)?;
     }
-    Ok(gauges)
+    Ok(tallies)
 }
 
-/// The gauges of counts of methods in so many parts, at no leads. Err where no memory is left.
-pub fn letters_of(alloc: Global, counts: &[MethodCount], parts: u64) -> Result<Vec<Gauge>, NoMemory>
+fn mark_tally(alloc: Global, count: Count, parts: u64) -> Result<Tally, NoMemory>
     requires { 1 ≤ parts }
-    ensures { IfOk result (λ gauges. gauges.items ≡ map (letter_gauge parts 0) counts.now) }
+    ensures { IfOk result (λ tally. at_front 0 tally ≡ mark_gauge parts 0 count) }
 {
-    let mut gauges = Vec::with_capacity(alloc, counts.len())?;
+    let numbers = Fronts::new(alloc)?;
+    Ok(Tally {
+        of: count.mark,
+        least: fewest(parts, count.min),
+        beyond: too_many(parts, count.max),
+        numbers,
+    })
+}
+
+/// The limits of counts of methods in so many parts, at no leads. Err where no memory is left.
+pub fn letters_of(alloc: Global, counts: &[MethodCount], parts: u64) -> Result<Vec<Tally>, NoMemory>
+    requires { 1 ≤ parts }
+    ensures { IfOk result (λ tallies. gauges_at 0 tallies.items ≡ map (letter_gauge parts 0) counts.now) }
+{
+    let mut tallies = Vec::with_capacity(alloc, counts.len())?;
     for count in counts {
-        gauges.push(Gauge {
-            of: count.letter,
-            least: fewest(parts, count.min),
-            beyond: too_many(parts, count.max),
-            number: 0,
-        })?;
+        tallies.push(letter_tally(alloc, *count, parts)?)?;
     }
-    Ok(gauges)
+    Ok(tallies)
+}
+
+fn letter_tally(alloc: Global, count: MethodCount, parts: u64) -> Result<Tally, NoMemory>
+    requires { 1 ≤ parts }
+    ensures { IfOk result (λ tally. at_front 0 tally ≡ letter_gauge parts 0 count) }
+{
+    let numbers = Fronts::new(alloc)?;
+    Ok(Tally {
+        of: count.letter,
+        least: fewest(parts, count.min),
+        beyond: too_many(parts, count.max),
+        numbers,
+    })
 }
 
 /// The shapes and limits of patterns of a stage, at no rows. Err where no memory is left.
@@ -74,24 +92,25 @@ pub fn fittings_of(
     patterns: &[Pattern],
 ) -> Result<Vec<Fitting>, NoMemory>
     requires cells { (i : ℕ) → i < length patterns.now → FitsStage stage (pattern_at patterns.now i).cells }
-    ensures { IfOk result (λ fittings. fittings.items ≡ map (fitting_of stage 0) patterns.now) }
+    ensures { IfOk result (λ fittings. fittings_at 0 fittings.items ≡ map (fitting_of stage 0) patterns.now) }
 {
     let mut fittings = Vec::with_capacity(alloc, patterns.len())?;
     for index in 0..patterns.len() {
-        fittings.push(fitting_at(alloc, stage, &patterns[index])?)?;
+        fittings.push(fitting_of(alloc, stage, &patterns[index])?)?;
     }
     Ok(fittings)
 }
 
-fn fitting_at(alloc: Global, stage: Stage, pattern: &Pattern) -> Result<Fitting, NoMemory>
+fn fitting_of(alloc: Global, stage: Stage, pattern: &Pattern) -> Result<Fitting, NoMemory>
     requires { FitsStage stage pattern.now.cells }
-    ensures { IfOk result (λ fitting. fitting ≡ fitting_of stage 0 pattern.now) }
+    ensures { IfOk result (λ fitting. fitting_at 0 fitting ≡ fitting_of stage 0 pattern.now) }
 {
     let shape = Shape::new(alloc, stage, &pattern.cells)?;
+    let numbers = Fronts::new(alloc)?;
     Ok(Fitting {
         shape,
         min: pattern.min,
         max: pattern.max,
-        number: 0,
+        numbers,
     })
 }

@@ -5,6 +5,7 @@ mod compiling;
 mod counting;
 mod fittings;
 mod fixing;
+mod fronts;
 mod gauges;
 mod hits;
 mod keeping;
@@ -20,6 +21,7 @@ mod parts;
 mod rooms;
 mod sets;
 mod shape;
+mod tallies;
 mod turning;
 
 pub use keeping::is_kept;

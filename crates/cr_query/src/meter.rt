@@ -1,10 +1,11 @@
 //! Meters: whether a node that grows and shrinks at its end can still come to a touch that meets the query.
 
-ghost use Rattle.std.specs.Prelude.{◌≡◌, ◌<◌, ◌↔◌, ◌||◌, ℕ, true, false, List, [], length, Some, IsTrue, IfOk};
+ghost use Rattle.std.specs.Prelude.{◌≡◌, ◌-◌, ◌<◌, ◌≤◌, ◌↔◌, ◌||◌, ℕ, true, false, List, [], length, Some, IsTrue, IfOk};
 ghost use Rattle.cr_leads.specs.Tables.{lead_table};
-ghost use Rattle.cr_model.specs.Callings.{head_of};
+ghost use Rattle.cr_model.specs.Callings.{head_of, length_of};
 ghost use Rattle.cr_model.specs.Dead.{is_too_many, is_too_few};
 ghost use Rattle.cr_model.specs.OneTurn.{touch_of};
+ghost use Rattle.cr_model.specs.Queries.{cap};
 ghost use Rattle.cr_model.specs.Sizes.{child};
 ghost use Rattle.cr_query.specs.Hits.{AreAlike};
 ghost use Rattle.cr_query.specs.Sets.{has_step};
@@ -14,9 +15,8 @@ ghost use Rattle.cr_query.specs.declared.meter.Hopeless.TheVariants.{TooMany, To
 
 use crate::compiling::{fittings_of, kinds_of, step_count};
 use crate::fittings::{
-    Fitting, lower_counted, lower_rows, raise_counted, raise_rows, some_have_fewer, some_have_more,
+    Fitting, raise_counted, raise_rows, some_are_out, some_have_fewer, some_have_more,
 };
-use crate::gauges::all_in;
 use crate::hits::{Hits, hits_of};
 use crate::kinds::Kind;
 use crate::leads::LeadCounts;
@@ -25,6 +25,7 @@ use crate::nodes::kind_at;
 use crate::numbers::{Numbers, numbers_of};
 use crate::rooms::{room_at, rooms_of};
 use crate::sets::with_step;
+use crate::tallies::all_in;
 use cr_leads::LeadTable;
 use cr_model::Problem;
 use cr_model::laws::{joined_callings_multiply, ringing_on};
@@ -42,8 +43,9 @@ pub enum Hopeless {
 
 /// A node of a problem, with the counts that the query's limits are on. It is seen as the problem and the node.
 ///
-/// All memory is taken in `new`. No call takes a time that grows with the node, and each is next to nothing
-/// where the query has no counts, no patterns and no limits on changes of method.
+/// What is counted is kept of each front of the node, so to go back is to forget the last step. All memory is taken in
+/// `new`. No call takes a time that grows with the node, and each is next to nothing where the query has no counts, no
+/// patterns and no limits on changes of method.
 #[derive(Drop)]
 pub struct Meter {
     problem: Problem,
@@ -54,16 +56,17 @@ pub struct Meter {
     rooms: Vec<u16>,
     // Of each count of leads.
     hits: Hits,
-    // Of the node.
+    // Of each front of the node.
     leads: LeadCounts,
     patterns: Vec<Fitting>,
 }
 
 impl Model for Meter {
-    ghost use Rattle.std.specs.Prelude.{◌≤◌, vec_capacity};
-    ghost use Rattle.cr_query.specs.Gauges.{HasSmallNumbers, HasSmallCounts, HasFewRows};
+    ghost use Rattle.std.specs.Prelude.{◌≤◌, length, vec_capacity};
+    ghost use Rattle.cr_query.specs.Gauges.{HasSmallNumbers, HasFewRows};
     ghost use Rattle.cr_query.specs.Hits.{AreHits};
-    ghost use Rattle.cr_query.specs.Meters.{MeterParts, meter_from, IsCompiled, IsCounted, HasFittings};
+    ghost use Rattle.cr_query.specs.Meters.{MeterParts, meter_from, IsCompiled, AreCounted, HaveFittings, AreSmall};
+    ghost use Rattle.cr_query.specs.Tallies.{fittings_at};
 
     ghost Value = { MeterParts };
 
@@ -71,11 +74,11 @@ impl Model for Meter {
 
     ghost invariant = { λ m.
         IsCompiled m.problem m.kinds.items m.numbers m.rooms.items
-        × IsCounted m.problem m.leads.steps.items m.leads
-        × HasFittings m.problem m.leads.steps.items m.patterns.items
+        × AreCounted m.problem m.leads.steps.items m.leads
+        × HaveFittings m.problem m.leads.steps.items m.patterns.items
         × HasSmallNumbers m.numbers
-        × HasSmallCounts m.leads.marks.items m.leads.letters.items m.leads.length m.leads.changes
-        × HasFewRows m.patterns.items
+        × AreSmall m.leads
+        × HasFewRows (fittings_at (length m.leads.steps.items) m.patterns.items)
         × (1024 ≤ vec_capacity m.leads.steps)
         × AreHits m.problem m.hits };
 }
@@ -113,8 +116,9 @@ impl Meter {
         ensures { self.new ≡ record { problem = self.old.problem; node = child self.old.node step } }
     {
         joined_callings_multiply();
+        let front = self.leads.front();
         self.leads.add(&self.kinds, step);
-        raise_rows(&mut self.patterns, from, leads.rows_of(step));
+        raise_rows(&mut self.patterns, front, from, leads.rows_of(step));
     }
 
     /// Goes to the node with this step more, where it is known how many rows of its lead fit each pattern. It takes
@@ -127,34 +131,30 @@ impl Meter {
         ensures { self.new ≡ record { problem = self.old.problem; node = child self.old.node step } }
     {
         joined_callings_multiply();
+        let front = self.leads.front();
         self.leads.add(&self.kinds, step);
-        raise_counted(&mut self.patterns, fitting);
+        raise_counted(&mut self.patterns, front, fitting);
     }
 
     /// Goes back to the node without its last step, which is this one. The row is the last one of the node that
-    /// is left. It takes no memory.
+    /// is left. It takes no memory. What is counted of that node is there still, so nothing is rung, and neither the
+    /// leads nor the step nor the row is looked at.
     pub fn take_back(&mut self, leads: &LeadTable, step: u8, from: &Row)
         requires table { leads.now ≡ lead_table self.old.problem }
         requires last { self.old.node ≡ child (parent self.old.node) step }
         requires from { from.now ≡ head_of self.old.problem (parent self.old.node) }
         ensures { self.new ≡ record { problem = self.old.problem; node = parent self.old.node } }
     {
-        joined_callings_multiply();
-        self.leads.take_back(&self.kinds, step);
-        lower_rows(&mut self.patterns, from, leads.rows_of(step));
+        self.take_last();
     }
 
-    /// Goes back to the node without its last step, which is this one, where it is known how many rows of its lead
-    /// fit each pattern. It takes no memory, and rings nothing.
+    /// Goes back to the node without its last step. It takes no memory, and rings nothing.
     #[inline(always)]
-    pub fn take_back_counted(&mut self, step: u8, fitting: &[u8])
-        requires last { self.old.node ≡ child (parent self.old.node) step }
-        requires fitting { fitting.now ≡ rows_fitting_after self.old.problem (parent self.old.node) step }
+    pub fn take_last(&mut self)
+        requires { 0 < length self.old.node }
         ensures { self.new ≡ record { problem = self.old.problem; node = parent self.old.node } }
     {
-        joined_callings_multiply();
-        self.leads.take_back(&self.kinds, step);
-        lower_counted(&mut self.patterns, fitting);
+        self.leads.take_last();
     }
 
     /// Whether the node has too many leads, rows or changes of method for the query, or too few that are left.
@@ -182,7 +182,7 @@ impl Meter {
         }
         ringing_on();
         let kind = kind_at(&self.kinds, step);
-        let left = room_at(&self.rooms, self.leads.length + u64::from(kind.length));
+        let left = room_at(&self.rooms, self.leads.length() + u64::from(kind.length));
         self.leads
             .is_hopeless_with(self.numbers, &self.kinds, kind, left)
     }
@@ -203,13 +203,14 @@ impl Meter {
     }
 
     // The same where all steps have so many changes, and changes of method no limits: all steps are asked at once.
+    #[inline(always)]
     fn hopeless_alike(&self, long: u8) -> u32
         requires { AreAlike self.now.problem long }
         ensures { (step : ℕ) → step < length self.now.problem.leads
             → has_step result step ≡ is_hopeless_by_leads self.now.problem (child self.now.node step) }
     {
         ringing_on();
-        let left = room_at(&self.rooms, self.leads.length + u64::from(long));
+        let left = room_at(&self.rooms, self.leads.length() + u64::from(long));
         self.leads.out_steps(&self.hits, left)
     }
 
@@ -231,7 +232,7 @@ impl Meter {
         ensures { is_hopeless_by_leads self.now.problem self.now.node ≡ false
             → result ≡ (is_too_many self.now.problem self.now.node || is_too_few self.now.problem self.now.node) }
     {
-        some_have_more(&self.patterns) | self.has_too_few_rows()
+        some_are_out(&self.patterns, self.leads.front(), self.rows_left())
     }
 
     /// Whether the node's touch, which is so many times the node as the query has parts, meets each count of
@@ -246,19 +247,19 @@ impl Meter {
     fn meets_mark_counts(&self) -> bool
         ensures { IsTrue result ↔ MeetsCounts self.now.problem (touch_of self.now.problem self.now.node) }
     {
-        all_in(&self.leads.marks)
+        all_in(&self.leads.marks, self.leads.front())
     }
 
     fn meets_method_counts(&self) -> bool
         ensures { IsTrue result ↔ MeetsMethodCounts self.now.problem (touch_of self.now.problem self.now.node) }
     {
-        all_in(&self.leads.letters)
+        all_in(&self.leads.letters, self.leads.front())
     }
 
     fn has_too_many(&self) -> bool
         ensures { result ≡ is_too_many self.now.problem self.now.node }
     {
-        self.has_too_many_leads() || some_have_more(&self.patterns)
+        self.has_too_many_leads() || some_have_more(&self.patterns, self.leads.front())
     }
 
     fn has_too_few(&self) -> bool
@@ -279,17 +280,23 @@ impl Meter {
         if self.asks_nothing_of_leads() {
             return false;
         }
-        let left = room_at(&self.rooms, self.leads.length);
+        let left = room_at(&self.rooms, self.leads.length());
         self.leads.has_too_few(self.numbers, left)
     }
 
     fn has_too_few_rows(&self) -> bool
         ensures { result ≡ has_too_few_rows self.now.problem self.now.node }
     {
-        some_have_fewer(
-            &self.patterns,
-            self.numbers.most.saturating_sub(self.leads.length),
-        )
+        some_have_fewer(&self.patterns, self.leads.front(), self.rows_left())
+    }
+
+    // How many rows are left of the greatest length.
+    #[inline(always)]
+    fn rows_left(&self) -> u64
+        ensures is { result ≡ cap self.now.problem - length_of self.now.problem self.now.node }
+        ensures few { result ≤ 12000 }
+    {
+        self.numbers.most.saturating_sub(self.leads.length())
     }
 
     // Whether the query has no counts and no limits on changes of method.

@@ -503,30 +503,18 @@ fn add(
     Ok(())
 }
 
-// Takes the last lead of a meter back, in the same two ways.
-fn back(
-    alloc: Global,
-    meter: &mut Meter,
-    problem: &Problem,
-    leads: &LeadTable,
-    step: u8,
-    head: &Row,
-    is_counted: bool,
-) -> Result<(), Fail>
-    requires same { meter.old.problem ≡ problem.now }
-    requires table { leads.now ≡ lead_table problem.now }
-    requires step { step < length leads.now.leads }
+// Takes the last lead of a meter back, by the lead or by itself.
+fn back(meter: &mut Meter, leads: &LeadTable, step: u8, head: &Row, is_counted: bool)
+    requires table { leads.now ≡ lead_table meter.old.problem }
     requires last { meter.old.node ≡ child (parent meter.old.node) step }
-    requires head { head.now ≡ head_of problem.now (parent meter.old.node) }
-    requires long { length head.now ≡ leads.now.stage }
+    requires head { head.now ≡ head_of meter.old.problem (parent meter.old.node) }
+    requires some { 0 < length meter.old.node }
 {
     if is_counted {
-        let fitting = fitting_of(alloc, problem, leads, step, head)?;
-        meter.take_back_counted(step, &fitting);
+        meter.take_last();
     } else {
         meter.take_back(leads, step, head);
     }
-    Ok(())
 }
 
 // Adds leads to a meter and takes the last one back, where each is rung or it is known how many of its rows fit:
@@ -567,7 +555,7 @@ fn told_at(
     add(alloc, &mut meter, problem, leads, step, &head, is_counted)?;
     let child = meter.hopeless();
     let counts = meter.meets_counts();
-    back(alloc, &mut meter, problem, leads, step, &head, is_counted)?;
+    back(&mut meter, leads, step, &head, is_counted);
     Ok((Told(before, by_leads, child, counts), meter.hopeless()))
 }
 
@@ -748,6 +736,51 @@ fn meters(rt: HostRuntime) -> Result<(), Fail> {
         let rung = walked(rt.alloc(), &draft, node, step, false)?;
         let counted = walked(rt.alloc(), &draft, node, step, true)?;
         if rung != (told, told.0) || counted != (told, told.0) {
+            return Err(Fail::from(name));
+        }
+    }
+    Ok(())
+}
+
+// Whether a node is hopeless by its rows, where it is not so by its leads.
+const BY_ROWS: &[(&str, Draft, &[u8], bool)] = &[
+    ("as many rows as a pattern allows", FEW_ROWS, &[0], false),
+    ("more rows than a pattern allows", FEW_ROWS, &[0, 0], true),
+    ("no row of the first lead", NO_QUEENS, &[0], false),
+    ("a row of the second lead", NO_QUEENS, &[0, 0], true),
+    ("as many rows are left", MANY_ROUNDS_BUT_ONE, &[0], false),
+    ("one row too few is left", MANY_ROUNDS, &[0], true),
+    ("no pattern", DOUBLES, &[0, 0], false),
+];
+
+fn is_hopeless_by_rows(alloc: Global, draft: &Draft, node: &[u8]) -> Result<bool, Fail> {
+    let problem = problem(alloc, draft)?;
+    let leads = table(alloc, &problem)?;
+    if !problem.has_steps(node) || node.len() >= 1024 {
+        return Err(Fail::from("the node is a short one of the problem"));
+    }
+    is_hopeless_by_rows_at(alloc, &problem, &leads, node)
+}
+
+// The same over the leads of the problem.
+fn is_hopeless_by_rows_at(
+    alloc: Global,
+    problem: &Problem,
+    leads: &LeadTable,
+    node: &[u8],
+) -> Result<bool, Fail>
+    requires table { leads.now ≡ lead_table problem.now }
+    requires steps { HasSteps problem.now node.now }
+    requires few { length node.now < 1024 }
+{
+    let meter = meter_at(alloc, problem, leads, node, true)?;
+    Ok(meter.is_hopeless_by_rows())
+}
+
+#[test]
+fn hopeless_by_rows(rt: HostRuntime) -> Result<(), Fail> {
+    for &(name, draft, node, told) in BY_ROWS {
+        if is_hopeless_by_rows(rt.alloc(), &draft, node)? != told {
             return Err(Fail::from(name));
         }
     }

@@ -1,6 +1,7 @@
 use Rattle.std.proofs.Common.{◌≡◌, map, take}
 use Rattle.cr_query.specs.Meters.{mark_gauge}
+use Rattle.cr_query.specs.Tallies.{gauges_at}
 use Rattle.cr_query.proofs.compiling.marks_of.Given as goal
 
 abbrev pub invariant-loop-count : goal.invariant-loop-count
-invariant-loop-count l = l.gauges.items ≡ map (mark_gauge l.parts 0) (take l.count-index l.counts)
+invariant-loop-count l = gauges_at 0 l.tallies.items ≡ map (mark_gauge l.parts 0) (take l.count-index l.counts)

@@ -1,4 +1,4 @@
-use Rattle.std.proofs.Common.{◌≡◌, ◌∙◌, ap₂, ap, ℕ, cond}
+use Rattle.std.proofs.Common.{◌∙◌, ap₂, ap, cond}
 use Rattle.cr_query.specs.declared.gauges.Gauge.{Gauge}
 use Rattle.cr_query.specs.Gauges.{is_out}
 use Rattle.cr_query.specs.Sets.{has_step}

@@ -1,4 +1,4 @@
-use Rattle.std.proofs.Common.{◌≡◌, ◌∙◌, ◌||◌, ap₂, subst, sym, ap, ℕ, cond, false, true}
+use Rattle.std.proofs.Common.{◌∙◌, ◌||◌, ap₂, ℕ}
 use Rattle.cr_query.specs.Sets.{has_step}
 use Rattle.cr_query.proofs.StepSets.{where_is}
 use Rattle.cr_query.proofs.sets.steps_where.Goals as goal

@@ -1,11 +1,10 @@
-use Rattle.std.proofs.Common.{◌≡◌, ◌<◌, length, map, All, sym, ap, ◌∙◌, subst, arith}
-use Rattle.std.proofs.lemmas.List.{length-map}
+use Rattle.std.proofs.Common.{◌≡◌, length, map, All, sym, ap, ap₂, ◌∙◌, subst, arith}
 use Rattle.cr_leads.specs.Tables.{lead_table, leads_counted}
 use Rattle.cr_model.specs.Callings.{head_of}
 use Rattle.cr_model.specs.Sizes.{child}
-use Rattle.cr_query.specs.Gauges.{rows_more}
-use Rattle.cr_query.specs.Meters.{MeterParts}
-use Rattle.cr_query.proofs.Metering.{kinds_counted, known_kinds, head_long, shapes_staged, lead_staged, fittings_raised, kept, written}
+use Rattle.cr_query.specs.Meters.{MeterParts, HaveFittings}
+use Rattle.cr_query.specs.Tallies.{lead_on}
+use Rattle.cr_query.proofs.Metering.{kinds_counted, known_kinds, head_long, shapes_staged, lead_staged, fittings_raised, fittings_counted, kept, written}
 use Rattle.cr_query.proofs.meter.Meter.add_lead.Goals as goal
 
 pub add-requires-clause-step : goal.add-requires-clause-step
@@ -31,7 +30,7 @@ raise_rows-requires-clause-shapes c =
     let m = c.self.inside in
     let from : c.args.from.now ≡ head_of m.problem m.leads.steps.items = c.requires.from ∙ ap (λ (meter : MeterParts). head_of meter.problem meter.node) (sym c.self.view_is) in
     let long : length c.args.from.now ≡ m.problem.stage = ap length from ∙ head_long c.joined_callings_multiply.ensures.head m.problem m.leads.steps.items in
-    shapes_staged m.problem m.leads.steps.items c.args.from.now c.deref_mut.result.now (c.deref_mut.ensures.value ∙ c.self.invariant.2) long
+    shapes_staged m.problem m.leads.steps.items c.args.from.now c.deref_mut.result.now (subst (HaveFittings m.problem m.leads.steps.items) (sym c.deref_mut.ensures.value) c.self.invariant.2) long
 
 pub raise_rows-requires-clause-lead : goal.raise_rows-requires-clause-lead
 raise_rows-requires-clause-lead c =
@@ -46,15 +45,19 @@ invariant_of-self c =
     let m = c.self.inside in
     let p = m.problem in
     let node = m.leads.steps.items in
-    let room : length node < 1024 = subst (λ (meter : MeterParts). length meter.node < 1024) (sym c.self.view_is) c.requires.few in
-    let counted = c.add.ensures.is p node (c.deref.ensures.value ∙ c.self.invariant.0.steps) room c.self.invariant.1 in
+    let counted = c.add.ensures.is p node (c.deref.ensures.value ∙ c.self.invariant.0.steps) c.self.invariant.1 in
     let table : c.args.leads.now ≡ lead_table p = c.requires.table ∙ ap (λ (meter : MeterParts). lead_table meter.problem) (sym c.self.view_is) in
     let from : c.args.from.now ≡ head_of p node = c.requires.from ∙ ap (λ (meter : MeterParts). head_of meter.problem meter.node) (sym c.self.view_is) in
     let long : length c.args.from.now ≡ p.stage = ap length from ∙ head_long c.joined_callings_multiply.ensures.head p node in
     let lead = c.rows_of.result.now in
     let staged = subst (λ n. All (λ row. length row ≡ n) lead) long (lead_staged p c.args.from.now c.args.leads.now lead table c.rows_of.ensures.lead long) in
-    let patterns : c.raise_rows.new.fittings ≡ map (rows_more c.args.from.now lead) m.patterns.items = c.raise_rows.ensures ∙ ap (map (rows_more c.args.from.now lead)) c.deref_mut.ensures.value in
-    let fitting = fittings_raised c.joined_callings_multiply.ensures.rows p node c.args.step m.patterns.items c.self.invariant.0.sound c.args.from.now lead from (c.rows_of.ensures.of_problem p table) staged c.self.invariant.2 in
-    let same : length c.raise_rows.new.fittings ≡ length m.patterns.items = ap length patterns ∙ length-map m.patterns.items (rows_more c.args.from.now lead) in
-    let all = kept p (child node c.args.step) c.add.new.self _ c.self.invariant.0.sound counted (written m.patterns.len m.patterns.items c.raise_rows.new.fittings m.patterns.ok.0 same ∙ patterns ∙ fitting) in
+    let patterns : c.raise_rows.new.fittings ≡ map (lead_on (length node) c.args.from.now lead) m.patterns.items =
+    c.raise_rows.ensures ∙ ap₂ (λ n ps. map (lead_on n c.args.from.now lead) ps) c.front-front.ensures c.deref_mut.ensures.value in
+    let fitting : HaveFittings p (child node c.args.step) c.raise_rows.new.fittings =
+    subst (HaveFittings p (child node c.args.step)) (sym patterns)
+    (fittings_raised c.joined_callings_multiply.ensures.rows p node c.args.step m.patterns.items c.self.invariant.2 c.self.invariant.0.sound c.args.from.now lead from (c.rows_of.ensures.of_problem p table) staged) in
+    let same : length c.raise_rows.new.fittings ≡ length m.patterns.items =
+    fittings_counted p (child node c.args.step) c.raise_rows.new.fittings fitting ∙ sym (fittings_counted p node m.patterns.items c.self.invariant.2) in
+    let all = kept p (child node c.args.step) c.add.new.self _ c.self.invariant.0.sound counted
+    (subst (HaveFittings p (child node c.args.step)) (sym (written m.patterns.len m.patterns.items c.raise_rows.new.fittings m.patterns.ok.0 same)) fitting) in
     (c.self.invariant.0, all.0, all.1, c.self.invariant.3, all.2, all.3, omega (arith, c.add.ensures.room, c.self.invariant.6), c.self.invariant.7)

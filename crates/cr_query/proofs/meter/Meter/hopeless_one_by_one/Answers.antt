@@ -1,4 +1,4 @@
-use Rattle.std.proofs.Common.{◌≡◌, ◌<◌, length, ap, ◌∙◌, sym, arith}
+use Rattle.std.proofs.Common.{◌≡◌, length, ap, ◌∙◌, arith}
 use Rattle.cr_model.specs.Sizes.{child}
 use Rattle.cr_query.specs.Meters.{MeterParts, is_hopeless_by_leads}
 use Rattle.cr_query.specs.Sets.{has_step}

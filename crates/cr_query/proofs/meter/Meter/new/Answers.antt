@@ -2,8 +2,8 @@ use Rattle.std.proofs.Common.{◌≡◌, [], map, ap, ap₂, ◌∙◌, sym, sub
 use Rattle.cr_model.specs.Problems.{ProblemParts, QueryParts}
 use Rattle.cr_model.specs.Sound.{IsSound}
 use Rattle.cr_query.specs.Hits.{AreHits}
-use Rattle.cr_query.specs.Meters.{fitting_of, kinds_of, HasNumbers, IsCounted, HasFittings}
-use Rattle.cr_query.proofs.Metering.{kept}
+use Rattle.cr_query.specs.Meters.{fitting_of, kinds_of, HasNumbers, AreCounted, HaveFittings}
+use Rattle.cr_query.proofs.Metering.{none_fitting, kept}
 use Rattle.cr_query.proofs.meter.Meter.new.Goals as goal
 
 pub invariant_of-result : goal.invariant_of-result
@@ -11,10 +11,10 @@ invariant_of-result c =
     let p = c.in_ok-problem.problem in
     let same : p ≡ c.args.problem.now = c.in_ok-problem.ensures in
     let sound : IsSound p = subst IsSound (sym same) c.query.ensures.sound in
-    let counted : IsCounted p [] c.in_ok-leads.leads = subst (λ q. IsCounted q [] c.in_ok-leads.leads) (sym same) c.in_ok-leads.ensures.is in
+    let counted : AreCounted p [] c.in_ok-leads.leads = subst (λ q. AreCounted q [] c.in_ok-leads.leads) (sym same) c.in_ok-leads.ensures.is in
     let query : c.query.result.now ≡ p.query = c.query.ensures.is ∙ ap (λ (q : ProblemParts). q.query) (sym same) in
-    let patterns : HasFittings p [] c.in_ok-patterns.patterns.items =
-    c.in_ok-patterns.ensures ∙ ap₂ (λ stage list. map (fitting_of stage 0) list) (c.stage.ensures.is ∙ ap (λ (q : ProblemParts). q.stage) (sym same)) (c.patterns_of.ensures ∙ ap (λ (q : QueryParts). q.patterns) query) in
+    let patterns : HaveFittings p [] c.in_ok-patterns.patterns.items =
+    none_fitting p c.in_ok-patterns.patterns.items (c.in_ok-patterns.ensures ∙ ap₂ (λ stage list. map (fitting_of stage 0) list) (c.stage.ensures.is ∙ ap (λ (q : ProblemParts). q.stage) (sym same)) (c.patterns_of.ensures ∙ ap (λ (q : QueryParts). q.patterns) query)) in
     let all = kept p [] c.in_ok-leads.leads c.in_ok-patterns.patterns.items sound counted patterns in (
       record {
         sound = sound;

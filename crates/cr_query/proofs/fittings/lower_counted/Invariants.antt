@@ -1,6 +1,0 @@
-use Rattle.std.proofs.Common.{◌≡◌, ◌++◌, take, drop}
-use Rattle.cr_query.specs.Gauges.{counted_fewer}
-use Rattle.cr_query.proofs.fittings.lower_counted.Given as goal
-
-abbrev pub invariant-loop-index : goal.invariant-loop-index
-invariant-loop-index l = l.fittings ≡ counted_fewer (take l.index l.initial.fittings) l.rows ++ drop l.index l.initial.fittings
