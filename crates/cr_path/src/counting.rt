@@ -75,12 +75,11 @@ impl Counting {
         }
     }
 
-    /// Goes back to the node without its last step, which is this one and whose lead is the one at this place.
+    /// Goes back to the node without its last step.
     #[inline(always)]
-    pub fn take_back<const COUNTS: usize>(&mut self, numbers: &NumberTable, place: usize, step: u8)
+    pub fn take_back<const COUNTS: usize>(&mut self)
         requires idle { COUNTS ≡ 0 → IsIdle self.old }
-        requires last { IfSome self.old.meter (λ meter. meter.node ≡ child (parent meter.node) step) }
-        requires lead { IfSome self.old.meter (λ meter. CanCount numbers.now place step (parent meter.node) meter) }
+        requires some { IfSome self.old.meter (λ meter. 0 < length meter.node) }
         ensures counted { (p : ProblemParts) (node : List ℕ) → IsCounted p node self.old → IsCounted p (parent node) self.new }
         ensures idle { COUNTS ≡ 0 → IsIdle self.new }
     {
@@ -88,7 +87,7 @@ impl Counting {
             return;
         }
         if let Some(meter) = &mut self.meter {
-            take_back_lead(meter, &mut self.fits, numbers, place, step);
+            take_last(meter);
             self.hopeless = None;
         }
     }
@@ -160,15 +159,13 @@ fn count_lead(
     meter.hopeless_steps()
 }
 
-// Takes the last step of a meter back, which is this one and whose lead is the one at this place.
+// Takes the last step of a meter back.
 #[inline(always)]
-fn take_back_lead(meter: &mut Meter, fits: &mut Fits, numbers: &NumberTable, place: usize, step: u8)
-    requires last { meter.old.node ≡ child (parent meter.old.node) step }
-    requires lead { CanCount numbers.now place step (parent meter.old.node) meter.old }
+fn take_last(meter: &mut Meter)
+    requires { 0 < length meter.old.node }
     ensures { meter.new ≡ meter_from meter.old.problem (parent meter.old.node) }
 {
-    numbers.take_fits(place, fits);
-    meter.take_back_counted(step, fits.numbers());
+    meter.take_last();
 }
 
 // The steps with which the node of a meter has too many or too few leads.

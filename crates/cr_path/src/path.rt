@@ -525,8 +525,7 @@ impl<'a, const WIDTH: usize, const COUNTS: usize> Path<'a, WIDTH, COUNTS> {
             .take_back(self.numbers.numbers_at::<WIDTH>(place));
         self.steps.pop();
         self.next = step + 1;
-        let table = self.numbers.table();
-        self.counting.take_back::<COUNTS>(table, place, step);
+        self.counting.take_back::<COUNTS>();
     }
 
     // Goes back to so many steps.

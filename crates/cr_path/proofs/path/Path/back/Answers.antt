@@ -44,44 +44,12 @@ take_back-requires g c =
     let w = c.self.inside in
     have_marks w.problem.now w.leads.now w.numbers w.steps w.next w.ends w.marks.marks w.marks.unmarked w.counting.value w.turn_free c.self.invariant.0 c.place-place.result c.numbers_at.result.now c.numbers_at.ensures
 
-pub take_back-requires-2-clause-last : goal.take_back-requires-2-clause-last
-take_back-requires-2-clause-last g c =
+pub take_back-requires-2-clause-some : goal.take_back-requires-2-clause-some
+take_back-requires-2-clause-some g c =
     let w = c.self.inside in
     let p = w.problem.now in
-    let t = w.numbers in
-    let is = c.self.invariant.0 in
     let some : 0 < length w.steps = subst (λ (v : PathParts). 0 < length v.node) (sym c.self.view_is) c.requires in
-    let many : length c.steps-number.result.now - 1 + 1 ≡ length w.steps = omega (arith, some, ap length c.steps-number.ensures.is) in
-    let index : ℕ = length c.steps-number.result.now - 1 in
-    let step : ℕ = get_or c.steps.result.now index 0 in
-    let last : index ≡ length w.steps - 1 = ap (λ (word : List ℕ). length word - 1) c.steps-number.ensures.is in
-    let step_is : step ≡ get_or w.steps index 0 = ap (λ (word : List ℕ). get_or word index 0) c.steps.ensures.is in
-    let whole = last_step w.steps step index some last step_is in
-    of_meter p w.steps (λ (m : MeterParts). m.node ≡ child (parent m.node) step) c.deref_mut.result.now.meter (subst (IsCounted p w.steps) (sym c.deref_mut.ensures.value) is.counted).meter whole
-
-pub take_back-requires-2-clause-lead : goal.take_back-requires-2-clause-lead
-take_back-requires-2-clause-lead g c =
-    let w = c.self.inside in
-    let p = w.problem.now in
-    let t = w.numbers in
-    let is = c.self.invariant.0 in
-    let some : 0 < length w.steps = subst (λ (v : PathParts). 0 < length v.node) (sym c.self.view_is) c.requires in
-    let many : length c.steps-number.result.now - 1 + 1 ≡ length w.steps = omega (arith, some, ap length c.steps-number.ensures.is) in
-    let at_end = c.last-base.ensures.is p t (parent w.steps) (final_step w.steps + 1) (c.pop.ensures p t w.steps w.next many is.ends) in
-    let index : ℕ = length c.steps-number.result.now - 1 in
-    let step : ℕ = get_or c.steps.result.now index 0 in
-    let last : index ≡ length w.steps - 1 = ap (λ (word : List ℕ). length word - 1) c.steps-number.ensures.is in
-    let step_is : step ≡ get_or w.steps index 0 = ap (λ (word : List ℕ). get_or word index 0) c.steps.ensures.is in
-    let known = last_known p w.leads.now t w.steps w.next w.ends w.marks.marks w.marks.unmarked w.counting.value w.turn_free is step index some last step_is in
-    of_meter p w.steps (λ (m : MeterParts). CanCount c.table-table.result.now c.place-place.result step (parent m.node) m) c.deref_mut.result.now.meter (subst (IsCounted p w.steps) (sym c.deref_mut.ensures.value) is.counted).meter
-    (record {
-      sound = is.sound;
-      numbered = subst (IsNumbered p) (sym c.table-table.ensures) is.numbered;
-      known = known;
-      base = c.last-base.result.base;
-      from = subst (λ (t : NumberParts). IsBase t (head_of p (parent w.steps)) c.last-base.result.base) (sym c.table-table.ensures) at_end.from;
-      is = c.place-place.ensures.is;
-    })
+    of_meter p w.steps (λ (m : MeterParts). 0 < length m.node) c.deref_mut.result.now.meter (subst (IsCounted p w.steps) (sym c.deref_mut.ensures.value) c.self.invariant.0.counted).meter some
 
 pub invariant_of-self : goal.invariant_of-self
 invariant_of-self g c =
