@@ -13,7 +13,7 @@ back-requires-clause-head c =
     c.in_ok-add.ensures ∙ ap (λ (m : MeterParts). meter_from p (child m.node c.args.step)) c.in_ok-meter.ensures in
     c.in_ok-head.ensures.is
     ∙ ap (head_of p) (sym (parent_of_child c.args.node.now c.args.step))
-    ∙ sym (ap (λ (m : MeterParts). head_of p (parent m.node)) now)
+    ∙ sym (ap (λ (m : MeterParts). head_of m.problem (parent m.node)) now)
 
 pub is_hopeless_with-by_leads-requires : goal.is_hopeless_with-by_leads-requires
 is_hopeless_with-by_leads-requires c =

@@ -1,4 +1,4 @@
-use Rattle.std.proofs.Common.{◌≡◌, ◌+◌, ◌*◌, ◌<◌, ◌≤◌, ◌∙◌, ℕ, length, take, drop, sym, ap, subst, List, arith}
+use Rattle.std.proofs.Common.{◌≡◌, ◌+◌, ◌*◌, ◌<◌, ◌≤◌, ◌∙◌, ℕ, length, take, drop, sym, ap, subst, List}
 use Rattle.cr_path.specs.Numbers.{NumberParts, numbers_of}
 use Rattle.cr_path.proofs.Places.{numbers_within}
 use Rattle.cr_path.proofs.at_hand.NumbersAtHand.numbers_at.Goals as goal

@@ -1,5 +1,5 @@
 use Rattle.std.proofs.Common.{length, sym, subst, take}
-use Rattle.cr_path.specs.Ends.{EndsParts, HasEnds}
+use Rattle.cr_path.specs.Ends.{HasEnds}
 use Rattle.cr_path.proofs.Kept.{left_kept}
 use Rattle.cr_path.proofs.ends.Ends.keep_left.Goals as goal
 

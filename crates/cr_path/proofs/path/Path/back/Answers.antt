@@ -1,10 +1,9 @@
 use Rattle.std.proofs.Common.{◌≡◌, ℕ, ◌-◌, ◌+◌, ◌<◌, List, length, get_or, refl, sym, ap, ◌∙◌, subst, arith}
-use Rattle.cr_model.specs.Sizes.{child}
 use Rattle.cr_query.specs.Meters.{MeterParts}
 use Rattle.cr_model.specs.Callings.{head_of}
 use Rattle.cr_path.specs.declared.table.LeadRecord.{LeadRecord}
-use Rattle.cr_path.specs.Numbers.{NumberParts, numbers_of, IsBase, IsNumbered}
-use Rattle.cr_path.specs.Counted.{IsCounted, CanCount}
+use Rattle.cr_path.specs.Numbers.{numbers_of}
+use Rattle.cr_path.specs.Counted.{IsCounted}
 use Rattle.cr_path.specs.Ends.{final_step, HasEnds}
 use Rattle.cr_path.specs.Walks.{PathParts, IsWalk, parent}
 use Rattle.cr_path.proofs.Children.{last_step}
