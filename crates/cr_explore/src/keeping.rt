@@ -60,12 +60,12 @@ pub fn is_touch_kept<W: Standing>(
 /// The same of a walk by numbers. Where patterns are all that tells the rotations of a touch apart, and there is one part,
 /// nothing is rung, and no memory is taken.
 #[inline(always)]
-pub fn is_numbered_touch_kept<const WIDTH: usize, const COUNTS: usize>(
+pub fn is_numbered_touch_kept<const WIDTH: usize, const COUNTS: usize, const STEPS: usize>(
     alloc: Global,
     problem: &Problem,
     leads: &LeadTable,
     numbers: &NumberTable,
-    walk: &NumberWalk<WIDTH, COUNTS>,
+    walk: &NumberWalk<WIDTH, COUNTS, STEPS>,
 ) -> Result<bool, NoMemory>
     requires same { walk.now.problem ≡ problem.now }
     requires table { leads.now ≡ lead_table problem.now }
@@ -94,10 +94,10 @@ fn is_told_by_patterns(problem: &Problem) -> bool
 
 // Whether the touch of a walk's node is kept, where patterns tell its rotations apart.
 #[inline(always)]
-fn is_best_touch<const WIDTH: usize, const COUNTS: usize>(
+fn is_best_touch<const WIDTH: usize, const COUNTS: usize, const STEPS: usize>(
     problem: &Problem,
     numbers: &NumberTable,
-    walk: &NumberWalk<WIDTH, COUNTS>,
+    walk: &NumberWalk<WIDTH, COUNTS, STEPS>,
 ) -> bool
     requires same { walk.now.problem ≡ problem.now }
     requires numbered { IsNumbered problem.now numbers.now }

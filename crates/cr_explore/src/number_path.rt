@@ -1,6 +1,6 @@
 //! A path by numbers.
 
-ghost use Rattle.std.specs.Prelude.{◌≡◌, [], length, IfOk};
+ghost use Rattle.std.specs.Prelude.{◌≡◌, ◌<◌, [], length, IfOk};
 ghost use Rattle.cr_leads.specs.Tables.{lead_table};
 ghost use Rattle.cr_path.specs.Counted.{AsksNothing};
 ghost use Rattle.cr_path.specs.Numbers.{IsNumbered};
@@ -16,18 +16,19 @@ use std::alloc::Global;
 use std::marker::Model;
 
 /// A path that looks up the rows of its leads by their numbers, of which each lead has `WIDTH`. `COUNTS` is 0 only where
-/// the query counts nothing.
+/// the query counts nothing, and `STEPS` is the number of steps, or 0.
 ///
 /// It is seen as the problem, the node and the step from which on the node's children are not tried yet.
 #[derive(Drop)]
-pub struct NumberPath<'a, const WIDTH: usize, const COUNTS: usize> {
+pub struct NumberPath<'a, const WIDTH: usize, const COUNTS: usize, const STEPS: usize> {
     problem: &'a Problem,
     leads: &'a LeadTable,
     numbers: &'a NumberTable,
-    walk: NumberWalk<'a, WIDTH, COUNTS>,
+    walk: NumberWalk<'a, WIDTH, COUNTS, STEPS>,
 }
 
-impl<'a, const WIDTH: usize, const COUNTS: usize> Model for NumberPath<'a, WIDTH, COUNTS> {
+impl<'a, const WIDTH: usize, const COUNTS: usize, const STEPS: usize> Model
+    for NumberPath<'a, WIDTH, COUNTS, STEPS> {
     ghost use Rattle.cr_path.specs.Walks.{WalkParts};
     ghost use Rattle.cr_explore.specs.Searches.{IsNumberPath};
 
@@ -38,18 +39,24 @@ impl<'a, const WIDTH: usize, const COUNTS: usize> Model for NumberPath<'a, WIDTH
     ghost invariant = { λ w. IsNumberPath w.problem.now w.leads.now w.numbers.now w.walk };
 }
 
-impl<'a, const WIDTH: usize, const COUNTS: usize> NumberPath<'a, WIDTH, COUNTS> {
+impl<'a, const WIDTH: usize, const COUNTS: usize, const STEPS: usize> NumberPath<
+    'a,
+    WIDTH,
+    COUNTS,
+    STEPS,
+> {
     /// The path at the node without steps, whose children are all tried. Err where no memory is left.
     pub fn new(
         alloc: Global,
         problem: &'a Problem,
         leads: &'a LeadTable,
         numbers: &'a NumberTable,
-    ) -> Result<NumberPath<'a, WIDTH, COUNTS>, NoMemory>
+    ) -> Result<NumberPath<'a, WIDTH, COUNTS, STEPS>, NoMemory>
         requires leads { leads.now ≡ lead_table problem.now }
         requires numbers { IsNumbered problem.now numbers.now }
         requires width { numbers.now.width ≡ WIDTH }
         requires counted { COUNTS ≡ 0 → AsksNothing problem.now.query }
+        requires steps { 0 < STEPS → STEPS ≡ length problem.now.leads }
         ensures { IfOk result (λ path. path ≡ record { problem = problem.now; node = []; next = length problem.now.leads }) }
     {
         let walk = NumberWalk::new(alloc, problem, leads, numbers)?;
@@ -62,7 +69,8 @@ impl<'a, const WIDTH: usize, const COUNTS: usize> NumberPath<'a, WIDTH, COUNTS> 
     }
 }
 
-impl<'a, const WIDTH: usize, const COUNTS: usize> Path for NumberPath<'a, WIDTH, COUNTS> {
+impl<'a, const WIDTH: usize, const COUNTS: usize, const STEPS: usize> Path
+    for NumberPath<'a, WIDTH, COUNTS, STEPS> {
     ghost problem_of = { λ w. w.problem };
 
     ghost node_of = { λ w. w.node };
@@ -80,7 +88,7 @@ impl<'a, const WIDTH: usize, const COUNTS: usize> Path for NumberPath<'a, WIDTH,
     }
 
     #[inline(never)]
-    fn gone_to(self, steps: &[u8]) -> NumberPath<'a, WIDTH, COUNTS> {
+    fn gone_to(self, steps: &[u8]) -> NumberPath<'a, WIDTH, COUNTS, STEPS> {
         let mut path = self;
         path.walk.go_to(steps);
         path

@@ -90,7 +90,8 @@ impl<'a> Standing for Walk<'a> {
     }
 }
 
-impl<'a, const WIDTH: usize, const COUNTS: usize> Standing for NumberWalk<'a, WIDTH, COUNTS> {
+impl<'a, const WIDTH: usize, const COUNTS: usize, const STEPS: usize> Standing
+    for NumberWalk<'a, WIDTH, COUNTS, STEPS> {
     ghost problem_of = { λ w. w.problem };
 
     ghost node_of = { λ w. w.node };

@@ -1,6 +1,6 @@
 //! The tables of a problem's search, and turns over them.
 
-ghost use Rattle.std.specs.Prelude.{◌≡◌, ◌≤◌, ◌⊎◌, [], All, IfOk, IfSome};
+ghost use Rattle.std.specs.Prelude.{◌≡◌, ◌<◌, ◌≤◌, ◌⊎◌, [], length, All, IfOk, IfSome};
 ghost use Rattle.cr_false.specs.Sets.{IsFalseTable};
 ghost use Rattle.cr_leads.specs.Tables.{lead_table};
 ghost use Rattle.cr_model.specs.Nodes.{IsValid};
@@ -200,14 +200,19 @@ fn turns_by_numbers<const WIDTH: usize>(
         ≡ after_turns problem.now most_rows job.now turns) }
 {
     if is_counted(problem) {
-        turns_on_path::<WIDTH, 1>(alloc, problem, leads, numbers, job, turns)
-    } else {
-        turns_on_path::<WIDTH, 0>(alloc, problem, leads, numbers, job, turns)
+        return turns_on_path::<WIDTH, 1, 0>(alloc, problem, leads, numbers, job, turns);
+    }
+    // Most problems have a plain lead with bobs, or with bobs and singles.
+    match leads.count() {
+        2 => turns_on_path::<WIDTH, 0, 2>(alloc, problem, leads, numbers, job, turns),
+        3 => turns_on_path::<WIDTH, 0, 3>(alloc, problem, leads, numbers, job, turns),
+        _ => turns_on_path::<WIDTH, 0, 0>(alloc, problem, leads, numbers, job, turns),
     }
 }
 
-// The same, where the query counts something, or nothing.
-fn turns_on_path<const WIDTH: usize, const COUNTS: usize>(
+// The same, where the query counts something, or nothing, and where the number of steps is known when this is compiled,
+// or 0 stands for it.
+fn turns_on_path<const WIDTH: usize, const COUNTS: usize, const STEPS: usize>(
     alloc: Global,
     problem: &Problem,
     leads: &LeadTable,
@@ -219,12 +224,13 @@ fn turns_on_path<const WIDTH: usize, const COUNTS: usize>(
     requires numbers { IsNumbered problem.now numbers.now }
     requires width { numbers.now.width ≡ WIDTH }
     requires counted { COUNTS ≡ 0 → AsksNothing problem.now.query }
+    requires steps { 0 < STEPS → STEPS ≡ length problem.now.leads }
     requires job { All (IsValid problem.now) job.now }
     ensures { IfOk result (λ done. record { found = done.found.items; rest = done.rest.items; used = done.used }
         ≡ after_turns problem.now most_rows job.now turns) }
 {
     let _ = problem.stage();
-    let path: NumberPath<WIDTH, COUNTS> = NumberPath::new(alloc, problem, leads, numbers)?;
+    let path: NumberPath<WIDTH, COUNTS, STEPS> = NumberPath::new(alloc, problem, leads, numbers)?;
     take_turns(alloc, path, job, turns)
 }
 

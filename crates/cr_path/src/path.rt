@@ -37,12 +37,12 @@ use cr_row::{NoMemory, Row};
 use std::alloc::Global;
 use std::marker::Model;
 
-/// The node of a walk, with what is known of it. Each lead has `WIDTH` telling rows, and `COUNTS` is 0 only where the
-/// query counts nothing.
+/// The node of a walk, with what is known of it. Each lead has `WIDTH` telling rows, `COUNTS` is 0 only where the query
+/// counts nothing, and `STEPS` is the number of steps, or 0.
 ///
 /// It is seen as the problem, the numbers, the node and the step from which on the node's children are not tried yet.
 #[derive(Drop)]
-pub struct Path<'a, const WIDTH: usize, const COUNTS: usize> {
+pub struct Path<'a, const WIDTH: usize, const COUNTS: usize, const STEPS: usize> {
     problem: &'a Problem,
     leads: &'a LeadTable,
     numbers: NumbersAtHand<'a>,
@@ -60,8 +60,9 @@ pub struct Path<'a, const WIDTH: usize, const COUNTS: usize> {
     turn_free: bool,
 }
 
-impl<'a, const WIDTH: usize, const COUNTS: usize> Model for Path<'a, WIDTH, COUNTS> {
-    ghost use Rattle.std.specs.Prelude.{◌≡◌};
+impl<'a, const WIDTH: usize, const COUNTS: usize, const STEPS: usize> Model
+    for Path<'a, WIDTH, COUNTS, STEPS> {
+    ghost use Rattle.std.specs.Prelude.{◌≡◌, ◌<◌, length};
     ghost use Rattle.cr_path.specs.Counted.{IsIdle};
     ghost use Rattle.cr_path.specs.Walks.{PathParts, path_from, IsWalk};
 
@@ -69,10 +70,16 @@ impl<'a, const WIDTH: usize, const COUNTS: usize> Model for Path<'a, WIDTH, COUN
 
     ghost view = { λ w. path_from w.problem.now w.numbers w.steps w.next };
 
-    ghost invariant = { λ w. IsWalk w.problem.now w.leads.now w.numbers w.steps w.next w.ends w.marks.marks w.marks.unmarked w.counting.value w.turn_free × (w.numbers.width ≡ WIDTH) × (COUNTS ≡ 0 → IsIdle w.counting.value) };
+    ghost invariant = { λ w. IsWalk w.problem.now w.leads.now w.numbers w.steps w.next w.ends w.marks.marks w.marks.unmarked w.counting.value w.turn_free × (w.numbers.width ≡ WIDTH) × (COUNTS ≡ 0 → IsIdle w.counting.value)
+        × (0 < STEPS → STEPS ≡ length w.problem.now.leads) };
 }
 
-impl<'a, const WIDTH: usize, const COUNTS: usize> Path<'a, WIDTH, COUNTS> {
+impl<'a, const WIDTH: usize, const COUNTS: usize, const STEPS: usize> Path<
+    'a,
+    WIDTH,
+    COUNTS,
+    STEPS,
+> {
     /// The path at the node of no steps, whose children are all tried. All memory is taken here. Err where no memory is
     /// left.
     pub fn new(
@@ -80,11 +87,12 @@ impl<'a, const WIDTH: usize, const COUNTS: usize> Path<'a, WIDTH, COUNTS> {
         problem: &'a Problem,
         leads: &'a LeadTable,
         numbers: &'a NumberTable,
-    ) -> Result<Path<'a, WIDTH, COUNTS>, NoMemory>
+    ) -> Result<Path<'a, WIDTH, COUNTS, STEPS>, NoMemory>
         requires leads { leads.now ≡ lead_table problem.now }
         requires numbers { IsNumbered problem.now numbers.now }
         requires width { numbers.now.width ≡ WIDTH }
         requires counted { COUNTS ≡ 0 → AsksNothing problem.now.query }
+        requires steps { 0 < STEPS → STEPS ≡ length problem.now.leads }
         ensures { IfOk result (λ path. path ≡ path_from problem.now numbers.now [] (length problem.now.leads)) }
     {
         let steps = Period::new(alloc)?;
@@ -363,7 +371,11 @@ impl<'a, const WIDTH: usize, const COUNTS: usize> Path<'a, WIDTH, COUNTS> {
     {
         // A problem keeps all of its checks.
         let _ = self.problem.stage();
-        self.leads.count()
+        if STEPS == 0 {
+            self.leads.count()
+        } else {
+            STEPS as u8
+        }
     }
 
     // Where the node ends.

@@ -24,18 +24,19 @@ use cr_row::{NoMemory, Row};
 use std::alloc::Global;
 use std::marker::Model;
 
-/// A walk from node to node of a problem whose lead heads and rows are numbered. Each lead has `WIDTH` telling rows, and
-/// `COUNTS` is 0 only where the query counts nothing, which `is_counted` tells.
+/// A walk from node to node of a problem whose lead heads and rows are numbered. Each lead has `WIDTH` telling rows,
+/// `COUNTS` is 0 only where the query counts nothing, which `is_counted` tells, and `STEPS` is the number of steps, or 0.
 ///
 /// It is seen as the problem, the node and the step from which on the node's children are not tried yet. All memory is
 /// taken in `new`, and nothing is rung. What it tells of its node takes a time that does not grow with the node, but for
 /// `parts_differ`.
 #[derive(Drop)]
-pub struct NumberWalk<'a, const WIDTH: usize, const COUNTS: usize> {
-    path: Path<'a, WIDTH, COUNTS>,
+pub struct NumberWalk<'a, const WIDTH: usize, const COUNTS: usize, const STEPS: usize> {
+    path: Path<'a, WIDTH, COUNTS, STEPS>,
 }
 
-impl<'a, const WIDTH: usize, const COUNTS: usize> Model for NumberWalk<'a, WIDTH, COUNTS> {
+impl<'a, const WIDTH: usize, const COUNTS: usize, const STEPS: usize> Model
+    for NumberWalk<'a, WIDTH, COUNTS, STEPS> {
     ghost use Rattle.cr_path.specs.Walks.{WalkParts, walk_from};
 
     ghost Value = { WalkParts };
@@ -43,18 +44,24 @@ impl<'a, const WIDTH: usize, const COUNTS: usize> Model for NumberWalk<'a, WIDTH
     ghost view = { λ w. walk_from w.path.problem w.path.node w.path.next };
 }
 
-impl<'a, const WIDTH: usize, const COUNTS: usize> NumberWalk<'a, WIDTH, COUNTS> {
+impl<'a, const WIDTH: usize, const COUNTS: usize, const STEPS: usize> NumberWalk<
+    'a,
+    WIDTH,
+    COUNTS,
+    STEPS,
+> {
     /// The walk at the node of no steps, whose children are all tried. Err where no memory is left.
     pub fn new(
         alloc: Global,
         problem: &'a Problem,
         leads: &'a LeadTable,
         numbers: &'a NumberTable,
-    ) -> Result<NumberWalk<'a, WIDTH, COUNTS>, NoMemory>
+    ) -> Result<NumberWalk<'a, WIDTH, COUNTS, STEPS>, NoMemory>
         requires leads { leads.now ≡ lead_table problem.now }
         requires numbers { IsNumbered problem.now numbers.now }
         requires width { numbers.now.width ≡ WIDTH }
         requires counted { COUNTS ≡ 0 → AsksNothing problem.now.query }
+        requires steps { 0 < STEPS → STEPS ≡ length problem.now.leads }
         ensures { IfOk result (λ walk. walk ≡ record { problem = problem.now; node = []; next = length problem.now.leads }) }
     {
         let path = Path::new(alloc, problem, leads, numbers)?;

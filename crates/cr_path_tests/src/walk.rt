@@ -142,7 +142,7 @@ fn walk_of<'a>(
     problem: &'a Problem,
     leads: &'a LeadTable,
     numbers: &'a NumberTable,
-) -> Result<NumberWalk<'a, 3, 1>, Fail>
+) -> Result<NumberWalk<'a, 3, 1, 0>, Fail>
     requires leads { leads.now ≡ lead_table problem.now }
     requires numbers { IsNumbered problem.now numbers.now }
     ensures { IfOk result (λ walk. walk.problem ≡ problem.now) }
@@ -174,7 +174,7 @@ fn ring(alloc: Global, leads: &LeadTable, steps: &[u8]) -> Result<Rung, Fail> {
 fn tells_of(
     alloc: Global,
     leads: &LeadTable,
-    walk: &NumberWalk<3, 1>,
+    walk: &NumberWalk<3, 1, 0>,
     node: &[u8],
 ) -> Result<bool, Fail> {
     let rung = ring(alloc, leads, node)?;
@@ -187,7 +187,7 @@ fn tells_of(
 }
 
 // Goes to the first live child that is not tried yet.
-fn down(problem: &Problem, walk: &mut NumberWalk<3, 1>) -> Option<u8>
+fn down(problem: &Problem, walk: &mut NumberWalk<3, 1, 0>) -> Option<u8>
     requires { walk.old.problem ≡ problem.now }
     ensures { walk.new.problem ≡ problem.now }
 {
@@ -199,7 +199,7 @@ fn down(problem: &Problem, walk: &mut NumberWalk<3, 1>) -> Option<u8>
 }
 
 // Goes back, and gives the last step. None at the root.
-fn up(problem: &Problem, walk: &mut NumberWalk<3, 1>) -> Option<u8>
+fn up(problem: &Problem, walk: &mut NumberWalk<3, 1, 0>) -> Option<u8>
     requires { walk.old.problem ≡ problem.now }
     ensures { walk.new.problem ≡ problem.now }
 {
@@ -210,7 +210,7 @@ fn up(problem: &Problem, walk: &mut NumberWalk<3, 1>) -> Option<u8>
 }
 
 // Goes to the node of another walk.
-fn follow(walk: &NumberWalk<3, 1>, other: &mut NumberWalk<3, 1>)
+fn follow(walk: &NumberWalk<3, 1, 0>, other: &mut NumberWalk<3, 1, 0>)
     requires { other.old.problem ≡ walk.now.problem }
     ensures { other.new.problem ≡ walk.now.problem }
 {
@@ -222,8 +222,8 @@ fn visit_all(
     alloc: Global,
     problem: &Problem,
     leads: &LeadTable,
-    walk: &mut NumberWalk<3, 1>,
-    other: &mut NumberWalk<3, 1>,
+    walk: &mut NumberWalk<3, 1, 0>,
+    other: &mut NumberWalk<3, 1, 0>,
 ) -> Result<u64, Fail>
     requires walk { walk.old.problem ≡ problem.now }
     requires other { other.old.problem ≡ problem.now }
@@ -284,7 +284,7 @@ fn live_nodes(
     problem: &Problem,
     leads: &LeadTable,
     numbers: &NumberTable,
-    walk: &mut NumberWalk<3, 1>,
+    walk: &mut NumberWalk<3, 1, 0>,
 ) -> Result<u64, Fail>
     requires leads { leads.now ≡ lead_table problem.now }
     requires numbers { IsNumbered problem.now numbers.now }
@@ -322,7 +322,7 @@ fn goes_to(
     alloc: Global,
     problem: &Problem,
     leads: &LeadTable,
-    walk: &mut NumberWalk<3, 1>,
+    walk: &mut NumberWalk<3, 1, 0>,
     node: &[u8],
 ) -> Result<bool, Fail>
     requires { walk.old.problem ≡ problem.now }
@@ -356,7 +356,7 @@ fn goes_to_all(
     alloc: Global,
     problem: &Problem,
     leads: &LeadTable,
-    walk: &mut NumberWalk<3, 1>,
+    walk: &mut NumberWalk<3, 1, 0>,
 ) -> Result<bool, Fail>
     requires { walk.old.problem ≡ problem.now }
 {
@@ -384,7 +384,7 @@ const LIVE_STEPS: &[(&[u8], &[u8])] = &[
 ];
 
 // Whether a walk goes down from its node by these steps, one after another, and by no other.
-fn goes_down_by(problem: &Problem, walk: &mut NumberWalk<3, 1>, steps: &[u8]) -> bool
+fn goes_down_by(problem: &Problem, walk: &mut NumberWalk<3, 1, 0>, steps: &[u8]) -> bool
     requires { walk.old.problem ≡ problem.now }
     ensures { walk.new.problem ≡ problem.now }
 {
@@ -400,7 +400,7 @@ fn goes_down_from_all(
     alloc: Global,
     problem: &Problem,
     leads: &LeadTable,
-    walk: &mut NumberWalk<3, 1>,
+    walk: &mut NumberWalk<3, 1, 0>,
 ) -> Result<bool, Fail>
     requires { walk.old.problem ≡ problem.now }
 {
@@ -435,7 +435,7 @@ fn comes_home(
     alloc: Global,
     problem: &Problem,
     leads: &LeadTable,
-    walk: &mut NumberWalk<3, 1>,
+    walk: &mut NumberWalk<3, 1, 0>,
     node: &[u8],
 ) -> Result<bool, Fail>
     requires { walk.old.problem ≡ problem.now }

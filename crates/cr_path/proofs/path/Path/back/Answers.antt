@@ -77,4 +77,5 @@ invariant_of-self g c =
           (c.take_back-2.ensures.counted p w.steps (subst (IsCounted p w.steps) (sym c.deref_mut.ensures.value) is.counted))),
       c.self.invariant.1,
       c.take_back-2.ensures.idle,
+      c.self.invariant.3,
     )

@@ -13,4 +13,5 @@ invariant_of-self g c =
           (c.keep_left.ensures p t w.steps w.next 0 c.self.invariant.0.ends (subst (λ (v : PathParts). AreUncut v.problem v.node 0 c.find_uncut-uncut.result) (sym c.self.view_is) c.find_uncut-uncut.ensures)),
       c.self.invariant.1,
       c.self.invariant.2,
+      c.self.invariant.3,
     )

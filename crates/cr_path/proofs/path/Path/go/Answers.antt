@@ -98,4 +98,5 @@ invariant_of-self g c =
           (c.add_lead.ensures.counted p w.steps (subst (IsCounted p w.steps) (sym c.deref_mut.ensures.value) is.counted))),
       c.self.invariant.1,
       c.add_lead.ensures.idle,
+      c.self.invariant.3,
     )

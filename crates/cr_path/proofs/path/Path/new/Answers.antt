@@ -26,4 +26,5 @@ invariant_of-result g c =
           (c.turn_free.ensures ∙ ap (λ (q : QueryParts). turn_free q) c.query.ensures.is) c.count.result (c.count.ensures.of_problem p c.requires.leads) c.in_ok-ends.ends c.in_ok-ends.ensures))),
       ap (λ (numbers : NumberParts). numbers.width) numbers_are ∙ c.requires.width,
       λ none. subst IsIdle (sym c.in_ok-counting.ensures.ok) (c.in_ok-counts.ensures.idle (c.requires.counted none)),
+      c.requires.steps,
     )

@@ -15,4 +15,5 @@ invariant_of-self g c =
           (c.keep_left.ensures p t w.steps w.next c.step_count-self-inside.result c.self.invariant.0.ends (subst (λ n. AreUncut p w.steps n c.no_steps.result) (sym all) (none_left p w.steps c.no_steps.result c.no_steps.ensures))),
       c.self.invariant.1,
       c.self.invariant.2,
+      c.self.invariant.3,
     )
