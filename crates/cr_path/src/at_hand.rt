@@ -1,9 +1,9 @@
 //! The numbers of a problem, with their lists at hand.
 
-ghost use Rattle.std.specs.Prelude.{◌≡◌, ◌+◌, ◌*◌, ◌<◌, ◌≤◌, ℕ, List, length, get_or, take, drop, false};
+ghost use Rattle.std.specs.Prelude.{◌≡◌, ◌+◌, ◌*◌, ◌<◌, ◌≤◌, ℕ, List, length, get_or, false};
 ghost use Rattle.cr_path.specs.Numbers.{numbers_of, IsBase, StartsHead};
 
-use crate::table::{LeadRecord, NumberTable};
+use crate::table::{numbers_in, LeadRecord, NumberTable};
 use cr_row::Row;
 use std::marker::Model;
 
@@ -104,15 +104,4 @@ fn record_in(records: &[LeadRecord], place: usize) -> LeadRecord
     ensures { result ≡ get_or records.now place result }
 {
     records[place]
-}
-
-// So many numbers, of which those of the first places stand before.
-#[inline(always)]
-fn numbers_in<const WIDTH: usize>(numbers: &[u32], place: usize) -> &[u32]
-    requires { place * WIDTH + WIDTH ≤ length numbers.now }
-    ensures { result.now ≡ take WIDTH (drop (place * WIDTH) numbers.now) }
-{
-    // That they are so many is known when this is compiled, so that a loop over them is none.
-    let start = place * WIDTH;
-    &numbers[start..start + WIDTH]
 }

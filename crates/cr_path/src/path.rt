@@ -18,7 +18,7 @@ ghost use Rattle.cr_path.specs.Ends.{final_step, IsEnd};
 ghost use Rattle.cr_path.specs.Living.{is_clean, is_cut, is_hopeless, is_live, IsFirst, IsFirstUncut};
 ghost use Rattle.cr_path.specs.Marks.{IsLead};
 ghost use Rattle.cr_path.specs.Numbers.{numbers_of, IsNumbered};
-ghost use Rattle.cr_path.specs.Sets.{AreSeen, AreUncut};
+ghost use Rattle.cr_path.specs.Sets.{AreUncut};
 ghost use Rattle.cr_path.specs.Walks.{path_from, parent, room_of};
 
 use crate::at_hand::NumbersAtHand;
@@ -306,42 +306,12 @@ impl<'a, const WIDTH: usize, const COUNTS: usize, const STEPS: usize> Path<
         ensures { AreUncut self.now.problem self.now.node 0 result }
     {
         // Also those that turn back are looked at, which takes less time than a loop whose length is not foreseen.
-        let seen = self.look_at_each(end, self.step_count());
-        without_below(seen, self.first_straight())
-    }
-
-    // The steps, which are so many, by which the children of a clean node are not cut, if they do not turn back. Where
-    // their number is that of most problems, it is known when this is compiled, so that a loop over them is none.
-    #[inline(always)]
-    fn look_at_each(&self, end: LeadEnd, count: u8) -> u32
-        requires clean { is_clean self.now.problem self.now.node ≡ true }
-        requires end { IsEnd self.now.problem self.now.numbers self.now.node end }
-        requires all { count ≡ length self.now.problem.leads }
-        requires few { count ≤ 24 }
-        ensures { AreSeen self.now.problem self.now.node count result }
-    {
-        match count {
-            2 => self.look_at_steps(end, 2),
-            3 => self.look_at_steps(end, 3),
-            _ => self.look_at_steps(end, count),
-        }
-    }
-
-    // The same.
-    #[inline(always)]
-    fn look_at_steps(&self, end: LeadEnd, count: u8) -> u32
-        requires clean { is_clean self.now.problem self.now.node ≡ true }
-        requires end { IsEnd self.now.problem self.now.numbers self.now.node end }
-        requires all { count ≡ length self.now.problem.leads }
-        requires few { count ≤ 24 }
-        ensures { AreSeen self.now.problem self.now.node count result }
-    {
         let hopeless = self.hopeless_steps();
-        let mut seen = no_steps();
-        for step in 0..count {
-            seen = with_step(seen, step, !self.is_cut(end, step, hopeless));
+        let mut uncut = no_steps();
+        for step in 0..self.step_count() {
+            uncut = with_step(uncut, step, !self.is_cut(end, step, hopeless));
         }
-        seen
+        without_below(uncut, self.first_straight())
     }
 
     // The least step by which the child does not turn back, or the number of steps. Where the query is the same for all

@@ -1,6 +1,6 @@
 //! The lead heads and the telling rows of a problem by numbers, and of each head and step a record of the lead.
 
-ghost use Rattle.std.specs.Prelude.{◌≡◌, ◌+◌, ◌*◌, ◌<◌, ◌≤◌, ◌↔◌, ℕ, List, IsTrue, false, [], length, get_or, map, IfOk, IfSome};
+ghost use Rattle.std.specs.Prelude.{◌≡◌, ◌+◌, ◌*◌, ◌<◌, ◌≤◌, ◌↔◌, ℕ, List, IsTrue, false, [], length, get_or, take, drop, map, IfOk, IfSome};
 ghost use Rattle.cr_leads.specs.Tables.{lead_table};
 ghost use Rattle.cr_model.specs.Limits.{most_patterns};
 ghost use Rattle.cr_model.specs.Sizes.{most_rows};
@@ -167,10 +167,7 @@ impl NumberTable {
         requires width { self.now.width ≡ WIDTH }
         ensures { result.now ≡ numbers_of self.now place }
     {
-        // That they are so many is known when this is compiled, so that a loop over them is none.
-        let numbers = self.numbers.as_slice();
-        let start = place * WIDTH;
-        &numbers[start..start + WIDTH]
+        numbers_in::<WIDTH>(&self.numbers, place)
     }
 
     /// The records of all leads.
@@ -266,4 +263,15 @@ fn rows_of(alloc: Global, stack: &RowStack) -> Result<Vec<Row>, NoMemory>
         rows.push(stack.row_at(place))?;
     }
     Ok(rows)
+}
+
+// So many numbers, of which those of the first places stand before.
+#[inline(always)]
+pub(crate) fn numbers_in<const WIDTH: usize>(numbers: &[u32], place: usize) -> &[u32]
+    requires { place * WIDTH + WIDTH ≤ length numbers.now }
+    ensures { result.now ≡ take WIDTH (drop (place * WIDTH) numbers.now) }
+{
+    // That they are so many is known when this is compiled, so that a loop over them is none.
+    let start = place * WIDTH;
+    &numbers[start..start + WIDTH]
 }

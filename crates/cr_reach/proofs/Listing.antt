@@ -238,16 +238,3 @@ none_further has_room is_greatest table inverses most deep start old new levels 
     let at : deep ≡ depth p most =
     ap (λ (t : ReachParts). t.depth) (whole_table has_room is_greatest table inverses most deep start old new levels some back listed whole p table_is) in
     ap (level p) (omega (arith, at)) ∙ sym level_is ∙ none
-
--- and a table with more room is the same
-pub same_depth : ((p : ProblemParts) (most : ℕ) → 1 ≤ most → HasRoom p most (depth p most))
-    → ((p : ProblemParts) (most leads : ℕ) → HasRoom p most leads → leads ≤ depth p most)
-    → (p : ProblemParts) (few most : ℕ) → 1 ≤ few → few ≤ most → level p (depth p few + 1) ≡ [] → reach_table p few ≡ reach_table p most
-same_depth has_room is_greatest p few most some within none =
-    let room = has_room p few some in
-    let low : depth p few ≤ depth p most = is_greatest p most (depth p few) (record { rows = room.rows; few = omega (arith, room.few, within) }) in
-    let at : depth p few ≡ depth p most = elim (cases_lt (depth p few) (depth p most)) [
-      | inl beyond ↦ absurd ((has_room p most (omega (arith, some, within))).rows (depth p few + 1) (omega (arith, beyond)) none)
-      | inr behind ↦ omega (arith, behind, low)
-    ] in
-    ap (reach_to p) at

@@ -1,12 +1,20 @@
-use Rattle.std.proofs.Common.{◌≡◌, ◌*◌, ◌<◌, ℕ, Fits, w64, length, sym, subst, arith}
-use Rattle.cr_path.specs.Numbers.{NumberParts}
+use Rattle.std.proofs.Common.{◌≡◌, ◌+◌, ◌*◌, ◌<◌, ◌≤◌, ◌∙◌, ℕ, length, take, drop, sym, ap, subst}
+use Rattle.cr_path.specs.Numbers.{NumberParts, numbers_of}
 use Rattle.cr_path.proofs.Places.{numbers_within}
 use Rattle.cr_path.proofs.table.NumberTable.numbers_at.Goals as goal
 
-pub overflow_mul-start : goal.overflow_mul-start
-overflow_mul-start g c =
+pub numbers_in-requires : goal.numbers_in-requires
+numbers_in-requires g c =
     let e = c.self.inside in
     let wide : e.width ≡ g.row.WIDTH = subst (λ (t : NumberParts). t.width ≡ g.row.WIDTH) (sym c.self.view_is) c.requires.width in
     let low : c.args.place < length e.records.items = subst (λ (t : NumberParts). c.args.place < length t.records) (sym c.self.view_is) c.requires.place in
     let all = numbers_within c.args.place (length e.records.items) e.width (length e.numbers.items) low c.self.invariant.numbers in
-    subst (λ (n : ℕ). Fits w64 (c.args.place * n)) wide (omega (arith, all, e.numbers.ok.0))
+    subst (λ (n : ℕ). c.args.place * n + n ≤ length e.numbers.items) wide all
+
+pub returns : goal.returns
+returns g c =
+    let e = c.self.inside in
+    let wide : e.width ≡ g.row.WIDTH = subst (λ (t : NumberParts). t.width ≡ g.row.WIDTH) (sym c.self.view_is) c.requires.width in
+    c.numbers_in.ensures
+    ∙ ap (λ (n : ℕ). take n (drop (c.args.place * n) e.numbers.items)) (sym wide)
+    ∙ ap (λ (t : NumberParts). numbers_of t c.args.place) c.self.view_is
