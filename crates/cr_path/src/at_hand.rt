@@ -3,7 +3,7 @@
 ghost use Rattle.std.specs.Prelude.{◌≡◌, ◌+◌, ◌*◌, ◌<◌, ◌≤◌, ℕ, List, length, get_or, false};
 ghost use Rattle.cr_path.specs.Numbers.{numbers_of, IsBase, StartsHead};
 
-use crate::table::{numbers_in, LeadRecord, NumberTable};
+use crate::table::{LeadRecord, NumberTable, numbers_in};
 use cr_row::Row;
 use std::marker::Model;
 
