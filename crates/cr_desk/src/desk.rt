@@ -13,8 +13,17 @@ use cr_board::{Board, Handed, Taken, Ticket};
 use cr_node::Explorer;
 use cr_row::NoMemory;
 use std::alloc::Global;
+use std::hint::spin_loop;
 use std::sync::ledger::{Blank, Ledger};
-use std::sync::{Condvar, Mutex, Wait};
+use std::sync::{Condvar, Mutex, MutexGuard, Wait};
+use std::thread::yield_now;
+
+// How often a worker looks whether the lock is free before it sleeps. The lock is held for some microseconds at a time, and
+// to sleep and be woken takes ten times as long.
+const LOOKS: u32 = 1_000;
+
+// After so many looks it lets others run between two, such as the one that has the lock.
+const LOOKS_AT_ONCE: u32 = 200;
 
 /// A board under a lock, for workers that explore its jobs side by side, and a signal for those that wait for a job.
 ///
@@ -83,7 +92,7 @@ impl<L: Ledger> Desk<L> {
                 Duty::Leave => break,
             };
             if !goes_on {
-                self.locked.lock(rt).resign(seat.worker, &mut seat.share);
+                self.lock(rt).resign(seat.worker, &mut seat.share);
                 break;
             }
         }
@@ -112,6 +121,21 @@ impl<L: Ledger> Desk<L> {
         (board, entries)
     }
 
+    // Takes the lock, and stays awake for it for a while.
+    fn lock<R: Wait>(&self, rt: &R) -> MutexGuard<'_, Locked<L>> {
+        for look in 0..LOOKS {
+            if let Some(locked) = self.locked.try_lock() {
+                return locked;
+            }
+            if look < LOOKS_AT_ONCE {
+                spin_loop();
+            } else {
+                yield_now();
+            }
+        }
+        self.locked.lock(rt)
+    }
+
     // Asks for a worker's next job until the answer is not to wait.
     fn ask<R: Wait, E: Explorer>(
         &self,
@@ -125,7 +149,7 @@ impl<L: Ledger> Desk<L> {
         ensures parts { seat.new.share.parts ≡ seat.old.share.parts }
         ensures amount { seat.old.share.amount ≤ seat.new.share.amount }
     {
-        let mut locked = self.locked.lock(rt);
+        let mut locked = self.lock(rt);
         for _ in rt.forever() {
             match locked.ask(alloc, explorer.problem(), seat.worker, &mut seat.share) {
                 Ok(Some(Taken::Job(ticket))) => return Duty::Explore(ticket),
@@ -157,7 +181,7 @@ impl<L: Ledger> Desk<L> {
             return false;
         };
         let opens_two = done.rest().len() > 1;
-        let mut locked = self.locked.lock(rt);
+        let mut locked = self.lock(rt);
         let handed = locked.hand_in(seat.worker, ticket.number, done, &mut seat.share);
         drop(locked);
         let taken = matches!(handed, Handed::In);

@@ -19,8 +19,8 @@ use std::alloc::Global;
 use std::sync::Wait;
 use std::thread::Threads;
 
-/// The most turns of one board, 2^26: its journal has two entries for each grant of 4,096 turns, and is dropped with it.
-pub const BOARD_TURNS: u64 = 67_108_864;
+/// The most turns of one board, 2^28: its journal has two entries for each grant of 4,096 turns, and is dropped with it.
+pub const BOARD_TURNS: u64 = 268_435_456;
 
 /// Where a search went: what it found and left, and how many touches each hand-in brought, in the order in which they
 /// stand in what was found, the touches that were found before it taken as one. No clause speaks of these numbers.
