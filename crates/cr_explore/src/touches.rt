@@ -71,8 +71,5 @@ pub fn node_from(alloc: Global, problem: &Problem, steps: &[u8]) -> Result<Node,
     ensures { IfOk result (λ node. node ≡ steps.now) }
 {
     let _problem = problem.stage();
-    match Node::new(steps.to_vec(alloc)?) {
-        Ok(node) => Ok(node),
-        Err(_) => unreachable!(),
-    }
+    Node::from_slice(alloc, steps)
 }

@@ -7,13 +7,18 @@ ghost use Rattle.cr_model.specs.Touches.{IsLess};
 
 use cr_model::limits::MOST_LEADS;
 use cr_row::NoMemory;
+use smallvec::SmallVec;
 use std::alloc::Global;
 use std::marker::Model;
+
+// How many steps lie in the node itself, as many as in a calling. Each job is a list of nodes, which is copied when it is
+// taken and when it is handed in.
+const ROOM: usize = 40;
 
 /// A list of at most 1,024 step numbers: how the touches below it begin.
 #[derive(Drop)]
 pub struct Node {
-    steps: Vec<u8>,
+    steps: SmallVec<u8, ROOM>,
 }
 
 impl Model for Node {
@@ -33,7 +38,7 @@ impl Node {
         ensures { result ≡ [] }
     {
         Node {
-            steps: Vec::new(alloc),
+            steps: SmallVec::new(alloc),
         }
     }
 
@@ -44,10 +49,21 @@ impl Node {
         ensures back { IfErr result (λ list. list ≡ steps) }
     {
         if steps.len() <= MOST_LEADS {
-            Ok(Node { steps })
+            Ok(Node {
+                steps: SmallVec::from_vec(steps),
+            })
         } else {
             Err(steps)
         }
+    }
+
+    /// The same steps as a node. It takes memory only for more than 40; Err where there is none.
+    pub fn from_slice(alloc: Global, steps: &[u8]) -> Result<Node, NoMemory>
+        requires { length steps.now ≤ most_leads }
+        ensures { IfOk result (λ node. node ≡ steps.now) }
+    {
+        let steps = SmallVec::from_slice(alloc, steps)?;
+        Ok(Node { steps })
     }
 
     /// Its step numbers.
@@ -62,8 +78,7 @@ impl Node {
     pub fn copy(&self, alloc: Global) -> Result<Node, NoMemory>
         ensures { IfOk result (λ node. node ≡ self.now) }
     {
-        let steps = self.steps.as_slice().to_vec(alloc)?;
-        Ok(Node { steps })
+        Node::from_slice(alloc, self.steps())
     }
 }
 

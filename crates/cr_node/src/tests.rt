@@ -132,6 +132,18 @@ fn nodes_are_short(rt: HostRuntime) -> Result<(), Fail> {
     Ok(())
 }
 
+// Up to 40 steps lie in the node itself.
+#[test]
+fn nodes_of_few_steps_and_of_many(rt: HostRuntime) -> Result<(), Fail> {
+    for length in [0, 1, 39, 40, 41, 1_024] {
+        let steps = Vec::from_elem(rt.alloc(), 3, length)?;
+        let node = Node::from_slice(rt.alloc(), &steps)?;
+        assert_eq!(rt; node.steps(), steps.as_slice());
+        assert_eq!(rt; node.copy(rt.alloc())?.steps(), steps.as_slice());
+    }
+    Ok(())
+}
+
 // Two nodes, whether the first is less, and whether it is a prefix.
 const PAIRS: &[(&str, &[u8], bool, bool)] = &[
     ("the root twice", b"//", false, true),
