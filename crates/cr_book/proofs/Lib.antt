@@ -9,3 +9,4 @@ pub mod EachMade
 pub mod Parts
 pub mod Lines
 pub mod Fronts
+mod Jobs

@@ -5,6 +5,7 @@ mod alone;
 #[cfg(test)]
 mod hunter;
 pub mod laws;
+mod seats;
 #[cfg(test)]
 mod tests;
 mod workers;

@@ -1,11 +1,12 @@
 //! Many workers on a board.
 
-ghost use Rattle.std.specs.Prelude.{◌≡◌, ◌<◌, [], false, get_or, flat_map, vec_len, All, IfOk};
+ghost use Rattle.std.specs.Prelude.{◌≡◌, [], false, get_or, flat_map, vec_len, All, IfOk};
 ghost use Rattle.cr_board.specs.Boards.{held_jobs};
 ghost use Rattle.cr_run.specs.Runs.{IsRun};
 
 use crate::alone::run_alone;
 use crate::laws::boards_at_rest;
+use crate::seats::{SeatWork, work_at_all};
 use cr_board::laws::events_only_append;
 use cr_board::{Board, Opening};
 use cr_desk::{Desk, Seat};
@@ -15,7 +16,6 @@ use std::alloc::Global;
 use std::marker::Brand;
 use std::sync::Wait;
 use std::sync::ledger::{Blank, Ledger};
-use std::thread;
 use std::thread::Threads;
 
 /// Opens a board and runs it to its end, by its workers side by side, in a thread each where one can be started, until no
@@ -81,33 +81,44 @@ fn at_desk<L: Ledger + Send + Sync, R: Threads + Wait + Sync, E: Explorer + Sync
     requires parts { blank.parts ≡ L.parts }
     requires workers { blank.parts ≡ board.opening.workers }
 {
-    let workers = board.opening().workers() as usize;
     let (desk, mut seats) = Desk::<L>::open(alloc, board, blank)?;
-    work_all(rt, alloc, &desk, explorer, &mut seats, workers);
+    work_all(rt, alloc, &desk, explorer, &mut seats);
     let (board, _) = desk.close(seats);
     Ok(board)
 }
 
-// The worker of each seat works, in a thread of its own where one can be started.
+// The worker of each seat works at the desk.
 fn work_all<L: Ledger + Send + Sync, R: Threads + Wait + Sync, E: Explorer + Sync>(
     rt: &R,
     alloc: Global,
     desk: &Desk<L>,
     explorer: &E,
     seats: &mut Vec<Seat<L>>,
-    threads: usize,
 )
-    requires some { 0 < threads }
     requires one { All (λ s. s.share.parts ≡ 1) seats.old.items }
     ensures one { All (λ s. s.share.parts ≡ 1) seats.new.items }
     ensures len { vec_len seats.new ≡ vec_len seats.old }
 {
-    thread::for_each_mut(
+    let place = Workplace {
         rt,
-        seats.as_mut_slice(),
-        threads,
-        &|_, seat: &mut Seat<L>|
-            ensures { seat.new.share.parts ≡ seat.old.share.parts }
-        { desk.work(rt, alloc, explorer, seat) },
-    );
+        alloc,
+        desk,
+        explorer,
+    };
+    work_at_all(rt, &place, seats.as_mut_slice());
+}
+
+// A desk, and what its workers explore with.
+#[derive(Drop)]
+struct Workplace<'a, L: Ledger, R, E> {
+    rt: &'a R,
+    alloc: Global,
+    desk: &'a Desk<L>,
+    explorer: &'a E,
+}
+
+impl<'a, L: Ledger, R: Wait, E: Explorer> SeatWork<L> for Workplace<'a, L, R, E> {
+    fn work_at(&self, seat: &mut Seat<L>) {
+        self.desk.work(self.rt, self.alloc, self.explorer, seat);
+    }
 }

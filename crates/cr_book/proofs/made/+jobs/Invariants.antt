@@ -1,0 +1,9 @@
+-- Each call of the cycle has fewer jobs.
+use Prim.Native.Nat.{◌+◌, ◌*◌}
+use Rattle.cr_book.proofs.made.+jobs.Given as goal
+
+abbrev pub decreases-run_jobs : goal.decreases-run_jobs
+decreases-run_jobs g l = 2 * l.first.len
+
+abbrev pub decreases-back : goal.decreases-back
+decreases-back g l = 2 * l.others.len + 1
