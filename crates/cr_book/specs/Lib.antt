@@ -3,6 +3,6 @@ pub mod Reads
 pub mod Leads
 pub mod Measures
 pub mod Dealt
-pub mod Runs
+pub mod Slices
 pub mod Pieces
 pub mod Lines

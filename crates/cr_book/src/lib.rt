@@ -10,7 +10,7 @@ mod order;
 mod part;
 mod pieces;
 mod reading;
-mod runs;
+mod slices;
 mod steps;
 mod summary;
 mod texts;

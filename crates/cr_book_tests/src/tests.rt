@@ -295,6 +295,8 @@ enum Order {
     TwoRuns,
     // 240 hand-ins of 25 touches each, handed in by many workers.
     HandIns,
+    // 240 hand-ins that follow one another, the touches of each from the last one on.
+    TurnedHandIns,
     Mixed,
 }
 
@@ -307,6 +309,7 @@ fn number_at(order: Order, place: usize) -> usize
         Order::SixRuns => 5_000 - place / 1_000 * 1_000 + place % 1_000,
         Order::TwoRuns => place * 2 % 6_000 + place / 3_000,
         Order::HandIns => place / 25 * 67 % 240 * 25 + place % 25,
+        Order::TurnedHandIns => place / 25 * 25 + (24 - place % 25),
         Order::Mixed => place * 7_919 % 6_000,
     }
 }
@@ -352,6 +355,7 @@ const ORDERS: &[Order] = &[
     Order::SixRuns,
     Order::TwoRuns,
     Order::HandIns,
+    Order::TurnedHandIns,
     Order::Mixed,
 ];
 
@@ -390,7 +394,7 @@ fn whatever_is_told_of_hand_ins_the_book_is_the_same(rt: HostRuntime) -> Result<
     let problem = problem_of(rt.alloc(), MINOR)?;
     let wanted = book_of_many(rt.alloc(), &problem)?;
     for handed in HANDED {
-        for order in [Order::HandIns, Order::Mixed] {
+        for order in [Order::HandIns, Order::TurnedHandIns, Order::Mixed] {
             let text = printed(&rt, rt.alloc(), &problem, order, 4, handed)?;
             assert!(rt; text.as_slice() == wanted.as_slice());
         }

@@ -27,3 +27,4 @@ pub mod Files
 pub mod ProblemFiles
 pub mod Checkpoints
 pub mod Inputs
+pub mod StepLists

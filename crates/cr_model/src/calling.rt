@@ -5,19 +5,15 @@ ghost use Rattle.cr_model.specs.Limits.{most_leads};
 ghost use Rattle.cr_model.specs.Queries.{repeated};
 
 use crate::limits::MOST_LEADS;
+use crate::step_list::StepList;
 use cr_row::NoMemory;
-use smallvec::SmallVec;
 use std::alloc::Global;
 use std::marker::Model;
-
-// How many steps lie in the calling itself. A book has millions of callings, and most have fewer leads than this: they
-// take no memory of their own, are sorted where they lie, and are let go at once.
-const ROOM: usize = 40;
 
 /// A list of at most 1,024 step numbers: the leads of a touch, in the order in which they are rung.
 #[derive(Drop)]
 pub struct Calling {
-    steps: SmallVec<u8, ROOM>,
+    steps: StepList,
 }
 
 impl Model for Calling {
@@ -26,9 +22,9 @@ impl Model for Calling {
 
     ghost Value = { List ℕ };
 
-    ghost view = { λ calling. calling.steps.items };
+    ghost view = { λ calling. calling.steps };
 
-    ghost invariant = { λ calling. length calling.steps.items ≤ most_leads };
+    ghost invariant = { λ calling. length calling.steps ≤ most_leads };
 }
 
 impl Calling {
@@ -40,20 +36,20 @@ impl Calling {
     {
         if steps.len() <= MOST_LEADS {
             Ok(Calling {
-                steps: SmallVec::from_vec(steps),
+                steps: StepList::from_vec(steps),
             })
         } else {
             Err(steps)
         }
     }
 
-    /// These steps so many times over. It takes memory only for more than 40 steps; Err where there is none.
+    /// These steps so many times over. It takes memory only for more than 46 steps; Err where there is none.
     #[tactic(auto, using(crate::proofs::Repeating::repeated_more))]
     pub fn repeated(alloc: Global, steps: &[u8], times: usize) -> Result<Calling, NoMemory>
         requires { times * length steps.now ≤ most_leads }
         ensures { IfOk result (λ calling. calling ≡ repeated times steps.now) }
     {
-        let mut all = SmallVec::with_capacity(alloc, times * steps.len())?;
+        let mut all = StepList::with_capacity(alloc, times * steps.len())?;
         for _time in 0..times {
             all.extend_from_slice(steps)?;
         }
@@ -66,11 +62,11 @@ impl Calling {
         ensures { result ≡ [] }
     {
         Calling {
-            steps: SmallVec::new(alloc),
+            steps: StepList::new(alloc),
         }
     }
 
-    /// Appends these steps. It takes memory only where there are more than 40 then, and no more than they need; Err where
+    /// Appends these steps. It takes memory only where there are more than 46 then, and no more than they need; Err where
     /// there is none, and the calling is as it was.
     #[inline(always)]
     pub fn extend_from_slice(&mut self, steps: &[u8]) -> Result<(), NoMemory>
@@ -78,7 +74,6 @@ impl Calling {
         ensures is { IfOk result (λ _. self.new ≡ self.old ++ steps.now) }
         ensures stays { IfErr result (λ _. self.new ≡ self.old) }
     {
-        self.steps.reserve_exact(steps.len())?;
         self.steps.extend_from_slice(steps)?;
         Ok(())
     }
@@ -95,7 +90,7 @@ impl Calling {
     pub fn copy(&self, alloc: Global) -> Result<Calling, NoMemory>
         ensures { IfOk result (λ calling. calling ≡ self.now) }
     {
-        let steps = SmallVec::from_slice(alloc, self.steps.as_slice())?;
+        let steps = StepList::from_slice(alloc, self.steps.as_slice())?;
         Ok(Calling { steps })
     }
 }

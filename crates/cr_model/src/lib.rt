@@ -6,6 +6,7 @@ mod checks;
 mod copies;
 mod count_checks;
 mod fault;
+mod few_steps;
 mod file_fault;
 mod given;
 pub mod laws;
@@ -19,6 +20,7 @@ mod pattern_checks;
 mod problem;
 mod query;
 mod reason;
+mod step_list;
 
 pub use calling::Calling;
 pub use fault::{CountAt, PartFault};

@@ -317,8 +317,8 @@ fn a_problem_tells_its_parts(rt: HostRuntime) -> Result<(), Fail> {
     Ok(())
 }
 
-// Lengths of callings that lie in themselves, up to 40 steps, and of longer ones.
-const LENGTHS: &[usize] = &[0, 1, 40, 41, 1_024];
+// Lengths of callings that lie in themselves, up to 46 steps, and of longer ones.
+const LENGTHS: &[usize] = &[0, 1, 46, 47, 1_024];
 
 #[test]
 fn a_calling_gives_its_steps(rt: HostRuntime) -> Result<(), Fail> {
@@ -351,9 +351,15 @@ fn a_calling_grows_by_steps(rt: HostRuntime) -> Result<(), Fail> {
     calling.extend_from_slice(&[2, 0])?;
     calling.extend_from_slice(&[1])?;
     assert_eq!(rt; calling.steps(), [2, 0, 1].as_slice());
-    calling.extend_from_slice(&[7; 38])?;
+    calling.extend_from_slice(&[7; 43])?;
     let steps = calling.steps();
-    assert!(rt; steps.len() == 41 && steps.starts_with(&[2, 0, 1, 7]) && steps.ends_with(&[7, 7]));
+    assert!(rt; steps.len() == 46 && steps.starts_with(&[2, 0, 1, 7]) && steps.ends_with(&[7, 7]));
+    calling.extend_from_slice(&[5])?;
+    calling.extend_from_slice(&[6, 3])?;
+    let steps = calling.steps();
+    assert!(rt;
+        steps.len() == 49 && steps.starts_with(&[2, 0, 1, 7]) && steps.ends_with(&[7, 5, 6, 3])
+    );
     Ok(())
 }
 

@@ -11,8 +11,8 @@ use smallvec::SmallVec;
 use std::alloc::Global;
 use std::marker::Model;
 
-// How many steps lie in the node itself, as many as in a calling. Each job is a list of nodes, which is copied when it is
-// taken and when it is handed in.
+// How many steps lie in the node itself. Each job is a list of nodes, which is copied when it is taken and when it is
+// handed in.
 const ROOM: usize = 40;
 
 /// A list of at most 1,024 step numbers: how the touches below it begin.

@@ -3,4 +3,4 @@ use Rattle.cr_model.specs.Queries.{repeated}
 use Rattle.cr_model.proofs.calling.Calling.repeated.Given as goal
 
 abbrev pub invariant-loop-time : goal.invariant-loop-time
-invariant-loop-time l = l.all.items ≡ repeated l._time l.steps
+invariant-loop-time l = l.all ≡ repeated l._time l.steps
