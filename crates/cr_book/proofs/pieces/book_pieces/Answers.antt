@@ -15,7 +15,7 @@ returns-then-text-clause-text g c =
     subst (λ f. AreInLine f slices) c.deref.ensures.value (subst (λ o. IfSome o (λ s. AreInLine c.deref.result.now s.items)) c.in-Some.is c.in_ok-slices.ensures) in
     let each : All (Ascends found) slices =
     subst (λ f. All (Ascends f) slices) c.deref-in-Some.ensures.value
-    (subst (All (Ascends c.deref-in-Some.result.now)) c.deref-in-Some-2.ensures.value (c.in_ok-text.ensures.ascends c.if-text.true)) in
+    (subst (All (Ascends c.deref-in-Some.result.now)) c.deref-in-Some-2.ensures.value (c.in_ok-text.ensures.ascends.0 c.if-text.true)) in
     let here : IsSorted (slice_cmp nat_cmp) (parts_of c.deref-in-Some.result.now c.deref-in-Some-2.result.now) =
     subst (λ f. IsSorted (slice_cmp nat_cmp) (parts_of f c.deref-in-Some-2.result.now)) (sym c.deref-in-Some.ensures.value)
     (subst (λ s. IsSorted (slice_cmp nat_cmp) (parts_of found s)) (sym c.deref-in-Some-2.ensures.value) (line.ascending each)) in

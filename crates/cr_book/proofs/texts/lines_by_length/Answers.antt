@@ -1,5 +1,5 @@
 -- One part more.
-use Rattle.std.proofs.Common.{[], ◌++◌, get_or, All, ap₂, ◌∙◌, subst}
+use Rattle.std.proofs.Common.{◌≡◌, ◌↔◌, true, [], ◌++◌, get_or, All, ap₂, ◌∙◌, subst}
 use Rattle.std.specs.Cmp.Lexicographic.{slice_cmp}
 use Rattle.std.specs.Ordering.{nat_cmp}
 use Rattle.std.specs.List.Sorted.{IsSorted}
@@ -17,9 +17,9 @@ loop-part-preserved c = record {
       (c.loop-part.invariant.lines long);
   ascend = told_more (Ascends c.args.found.now) c.args.parts.now c.loop-part.part-index (record { start = 0; end = 0 }) c.loop-part.ascend c.ascends-ascend.result
       c.loop-part-test.true c.loop-part.invariant.ascend
-      (λ up. subst (IsSorted (slice_cmp nat_cmp)) c.touches_in-touches.ensures (c.ascends-ascend.ensures.0 up));
+      (subst (λ touches. c.ascends-ascend.result ≡ true ↔ IsSorted (slice_cmp nat_cmp) touches) c.touches_in-touches.ensures c.ascends-ascend.ensures);
 }
 
 pub returns-clause-ascend : goal.returns-clause-ascend
-returns-clause-ascend c up =
-    subst (All (Ascends c.args.found.now)) (take_all c.loop-part.part-index c.args.parts.now c.loop-part-test.false) (c.loop-part.invariant.ascend up)
+returns-clause-ascend c =
+    subst (λ parts. c.loop-part.ascend ≡ true ↔ All (Ascends c.args.found.now) parts) (take_all c.loop-part.part-index c.args.parts.now c.loop-part-test.false) c.loop-part.invariant.ascend
