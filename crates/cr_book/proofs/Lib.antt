@@ -9,4 +9,5 @@ pub mod EachMade
 pub mod Parts
 pub mod Lines
 pub mod Fronts
+mod Groups
 mod Jobs

@@ -3,6 +3,7 @@
 #![tactic(auto)]
 
 mod fault;
+mod keyed;
 pub mod laws;
 mod lengths;
 mod made;

@@ -160,7 +160,7 @@ fn search<R: AllocGlobal + Threads + Wait + Sync, S: Source, K: Sink, G: Gate + 
                 stopped,
                 spent,
             },
-        ) => match write_beside(rt, workers, sink, &pieces, spent) {
+        ) => match write_beside(rt, workers, sink, pieces, spent) {
             Ok(()) => reached(stopped),
             Err(WriteFault) => Status::WriteFault,
         },
