@@ -56,7 +56,7 @@ module _ (o : OpeningParts) (h : Hall) (keeps : HallKeeps o h) where
   ]
 
   -- sums over what is held, after it was let go
-  freed : (f : Option Grip → ℕ) (worker : ℕ) (grip : Grip) → f None ≡ 0 → grip_at h worker ≡ Some grip
+  pub freed : (f : Option Grip → ℕ) (worker : ℕ) (grip : Grip) → f None ≡ 0 → grip_at h worker ≡ Some grip
       → sum_by f (set h.held worker None) + f (Some grip) ≡ sum_by f h.held
   freed f worker grip none holds =
       let inside : worker < length h.held = omega (arith, grip_inside worker grip holds, keeps.held) in
@@ -71,7 +71,7 @@ module _ (o : OpeningParts) (h : Hall) (keeps : HallKeeps o h) where
       let before : f (grip_at h worker) ≡ f None = ap f idle in
       omega (arith, sum_by-set f h.held worker (Some grip) None inside, before, none)
 
-  take_times : (worker lane job grant : ℕ) → CanTake o h worker lane job grant → (number : ℕ) → times_in (after_entry h (Take worker lane job grant)) number ≡ times_in h number
+  pub take_times : (worker lane job grant : ℕ) → CanTake o h worker lane job grant → (number : ℕ) → times_in (after_entry h (Take worker lane job grant)) number ≡ times_in h number
   take_times worker lane job grant can number =
       let inside = lane_inside lane job can.stands in
       let lanes = sum_by-set (times number) h.lanes lane (without job (numbers_at h lane)) [] inside in
@@ -79,7 +79,7 @@ module _ (o : OpeningParts) (h : Hall) (keeps : HallKeeps o h) where
       let held = gripped (grip_times number) worker (record { number = job; grant = grant }) refl can.worker can.idle in
       omega (arith, lanes, left, held)
 
-  back_times : (worker job turns : ℕ) → HoldsFor h worker job turns → (number : ℕ) → times_in (after_entry h (Back worker job)) number ≡ times_in h number
+  pub back_times : (worker job turns : ℕ) → HoldsFor h worker job turns → (number : ℕ) → times_in (after_entry h (Back worker job)) number ≡ times_in h number
   back_times worker job turns (grant, holds, enough) number =
       let inside : worker < length h.lanes = omega (arith, grip_inside worker (record { number = job; grant = grant }) holds, keeps.lanes) in
       let lanes = lane_times number h.lanes worker (job ∷ []) inside in
@@ -87,7 +87,7 @@ module _ (o : OpeningParts) (h : Hall) (keeps : HallKeeps o h) where
       let held = freed (grip_times number) worker (record { number = job; grant = grant }) refl holds in
       omega (arith, lanes, one, held)
 
-  hand_times : (worker job used touches opened : ℕ) → HoldsFor h worker job used → (number : ℕ)
+  pub hand_times : (worker job used touches opened : ℕ) → HoldsFor h worker job used → (number : ℕ)
       → times_in (after_entry h (Hand worker job used touches opened)) number + one_if job number ≡ times_in h number + times number (range_with_len h.next opened)
   hand_times worker job used touches opened (grant, holds, enough) number =
       let inside : worker < length h.lanes = omega (arith, grip_inside worker (record { number = job; grant = grant }) holds, keeps.lanes) in

@@ -1,5 +1,5 @@
 -- What a board keeps, after each of its calls.
-use Rattle.std.proofs.Common.{◌≡◌, ℕ, zero, suc, ◌+◌, ◌≤◌, Bool, true, false, List, set, replicate, Option, Some, None, Result, Ok, Err, OnErr, refl, sym, subst, arith}
+use Rattle.std.proofs.Common.{◌≡◌, ℕ, zero, suc, ◌+◌, ◌≤◌, Bool, true, false, cond, nat_lt, List, [], ◌∷◌, set, replicate, Option, Some, None, Result, Ok, Err, OnErr, refl, sym, ap, ◌∙◌, subst, arith}
 use Rattle.cr_node.specs.Work.{Work, IsDone}
 use Rattle.cr_model.specs.Nodes.{Splits}
 use Rattle.cr_model.specs.Sizes.{most_rows, size_of_all}
@@ -7,15 +7,19 @@ use Rattle.cr_board.specs.Jobs.{JobParts, OpeningParts, IsOpening}
 use Rattle.cr_board.specs.declared.entry.Entry.{Entry}
 use Rattle.cr_board.specs.Boards.{BoardParts, held_at, opened}
 use Rattle.cr_board.specs.Halls.{IsReplayed}
-use Rattle.cr_board.specs.Choices.{refusal_of, Stands}
+use Rattle.cr_board.specs.Choices.{refusal_of, next_place, claim_place, Stands}
 use Rattle.cr_board.specs.Partitions.{IsKept}
-use Rattle.cr_board.specs.Moves.{taken_at, put_back, given_back, after_resigning, back_below, after_recall, handed_in, IsDue}
+use Rattle.cr_board.specs.Moves.{taken_at, after_ask, put_back, given_back, after_resigning, back_below, after_recall, handed_in, IsDue}
 use Rattle.cr_board.specs.declared.held.Held.{Held}
 use Rattle.cr_board.specs.declared.place.Place.{Place}
+use Rattle.cr_board.specs.declared.refusal.Refusal.{Refusal}
+use Rattle.cr_board.specs.declared.event.Event.{Event}
+use Rattle.cr_board.specs.declared.event.Event.TheVariants.{Next, Claim, Work as Works, Resign, Recall}
+use Rattle.cr_board.specs.Steps.{WorkStep, EventStep, Ran}
 use Rattle.cr_board.proofs.Parting.{AmongOthers}
-use Rattle.cr_board.proofs.Asking.{free_from}
+use Rattle.cr_board.proofs.Asking.{free_from, next_stands, claim_stands}
 use Rattle.cr_board.proofs.Moving.{after_take, after_hand}
-use Rattle.cr_board.proofs.Events.{after_leaving, after_recalling, giving_keeps, below_keeps}
+use Rattle.cr_board.proofs.Events.{after_leaving, after_recalling, giving_keeps, below_keeps, opening_stays}
 use Rattle.cr_board.proofs.Openings.{opened_is}
 use Rattle.cr_board.proofs.Replaying.{take_replayed, back_replayed, hand_replayed, opened_replayed}
 
@@ -92,3 +96,40 @@ due_keeps among b worker number work due done kept =
     (subst (λ p. size_of_all p most_rows work.rest + work.used ≡ size_of_all p most_rows due.held.job.nodes) due.problem
     (subst (λ j. size_of_all work.problem most_rows work.rest + work.used ≡ size_of_all work.problem most_rows j) due.job done.size))
     due.within kept)
+
+-- an event keeps all that a board keeps
+asking_keeps : (b : BoardParts) (worker : ℕ) (place : Option Place) → (refusal_of b worker ≡ None → (at : Place) → place ≡ Some at → Stands b.lanes at)
+    → IsKept b → IsKept (after_ask b worker (refusal_of b worker) place)
+asking_keeps b worker place stands kept = by (refusal_of b worker) refl place refl
+  where
+    by : (r : Option Refusal) → refusal_of b worker ≡ r → (at : Option Place) → place ≡ at → IsKept (after_ask b worker r at)
+    by (Some r) e at f = kept
+    by None e None f = kept
+    by None e (Some at) f = take_keeps b worker at e (stands e at f) kept
+
+pub event_keeps : AmongOthers → (b after : BoardParts) (event : Event) → IsKept b → EventStep b event after → IsKept after
+event_keeps among b after (Next worker) kept step = subst IsKept (sym step)
+    (asking_keeps b worker (next_place b worker) (λ free at e. next_stands b kept.partition.shape.lanes worker at (free_from b worker free).worker e) kept)
+event_keeps among b after (Claim worker number) kept step = subst IsKept (sym step)
+    (asking_keeps b worker (claim_place b number) (λ free at e. (claim_stands b kept.partition.shape.lanes number at e).0) kept)
+event_keeps among b after (Works worker) kept step = by (held_at b.held worker) refl step
+  where
+    by : (h : Option Held) → held_at b.held worker ≡ h → WorkStep b worker h after → IsKept after
+    by None e same = subst IsKept (sym same) kept
+    by (Some mine) e (work, worked, is) = subst IsKept (sym is) (hand_keeps among b worker mine work e worked.splits worked.size worked.within kept)
+event_keeps among b after (Resign worker) kept step = subst IsKept (sym step) (by (nat_lt worker b.opening.workers))
+  where
+    by : (inside : Bool) → IsKept (cond inside (after_resigning b worker) b)
+    by true = resign_keeps b worker kept
+    by false = kept
+event_keeps among b after Recall kept step = subst IsKept (sym step) (recall_keeps b kept)
+
+-- and so do events
+pub events_keep : AmongOthers → (b after : BoardParts) (events : List Event) → IsKept b → Ran b events after → IsKept after
+events_keep among b after [] kept ran = subst IsKept (sym ran) kept
+events_keep among b after (event ∷ events) kept (middle, step, ran) = events_keep among middle after events (event_keeps among b middle event kept step) ran
+
+-- on the board's own opening
+pub opening_kept : (b after : BoardParts) (events : List Event) → Ran b events after → after.opening ≡ b.opening
+opening_kept b after [] ran = ap (λ a. a.opening) ran
+opening_kept b after (event ∷ events) (middle, step, ran) = opening_kept middle after events ran ∙ opening_stays b middle event step

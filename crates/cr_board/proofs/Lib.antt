@@ -21,3 +21,5 @@ pub mod Appending
 pub mod Entries
 pub mod Resigning
 pub mod Tickets
+pub mod Once
+pub mod Drawn

@@ -2,6 +2,7 @@ pub mod Jobs
 pub mod Boards
 pub mod Halls
 pub mod Partitions
+pub mod Chains
 pub mod Choices
 pub mod Moves
 pub mod Steps

@@ -2,7 +2,7 @@
 use Rattle.std.specs.Prelude.{◌≡◌, ℕ, ◌+◌, ◌<◌, true, false, List, length, get_or, All, None}
 use Rattle.cr_model.specs.Problems.{ProblemParts}
 use Rattle.cr_model.specs.Touches.{Kept}
-use Rattle.cr_model.specs.Nodes.{IsValid, Independent, nodes_above, times_found}
+use Rattle.cr_model.specs.Nodes.{IsValid, Independent, Covers, nodes_above, times_found}
 use Rattle.cr_model.specs.Sizes.{most_rows, size_of_all}
 use Rattle.cr_board.specs.Jobs.{IsOpening, opening_nodes}
 use Rattle.cr_board.specs.Boards.{BoardParts, held_at, jobs_of, nodes_of}
@@ -17,6 +17,13 @@ pub record IsPartition (p : ProblemParts) (found nodes now left : List (List ℕ
   pub independent : Independent p now left
   pub valid : All (IsValid p) left
   pub size : size_of_all p most_rows left + spent ≡ size_of_all p most_rows nodes
+
+-- each kept touch that was covered before was found once, or has one node above it, and never both. Another kept touch
+-- has neither, and nothing was found that was not covered
+pub record EachOnce (p : ProblemParts) (found nodes now left : List (List ℕ)) : Type 0 where
+  pub covered : (calling : List ℕ) → Covers p found nodes calling → times_found now calling + nodes_above p left calling ≡ 1
+  pub uncovered : (calling : List ℕ) → Kept p calling → (Covers p found nodes calling → ⊥) → times_found now calling + nodes_above p left calling ≡ 0
+  pub unfound : (calling : List ℕ) → (Covers p found nodes calling → ⊥) → times_found now calling ≡ 0
 
 -- one lane, one place to hold a job and one flag for each worker
 pub record HasShape (b : BoardParts) : Type 0 where

@@ -13,5 +13,8 @@ returns c = record {
   spent = refl;
   claims = refl;
   stale = refl;
+  holding = refl;
+  wait = refl;
+  wait_for_the_first = refl;
   replayed = refl;
 }
