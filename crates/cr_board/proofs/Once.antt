@@ -1,11 +1,13 @@
 -- Each kept touch stands once: in what was found, or below one node.
-use Rattle.std.proofs.Common.{◌≡◌, ◌≢◌, ℕ, zero, suc, ◌+◌, ◌<◌, ◌≤◌, List, [], ◌∷◌, ◌++◌, length, get_or, map, Less, Greater, inl, inr, refl, sym, ap, ◌∙◌, subst, bytes_eq, arith}
+use Rattle.std.proofs.Common.{◌≡◌, ◌≢◌, ℕ, zero, suc, ◌+◌, ◌<◌, ◌≤◌, List, [], ◌∷◌, ◌++◌, length, get_or, map, All, Less, Greater, inl, inr, refl, sym, ap, ◌∙◌, subst, bytes_eq, arith}
 use Rattle.std.specs.Cmp.{IsTotalOrder}
 use Rattle.std.specs.Ordering.{ordering_reverse}
 use Rattle.std.specs.List.Sorted.{IsStrictlySortedBy}
 use Rattle.std.proofs.lemmas.Bool.{cases_lt}
 use Rattle.std.proofs.lemmas.Cmp.{nat_cmp_total, nat_list_cmp_total, on_total, then_total}
 use Rattle.std.proofs.lemmas.List.{append_assoc, append-nil, get_or_default}
+use Rattle.std.proofs.lemmas.List.Elements.{All-map}
+use Rattle.std.proofs.lemmas.List.Sums.{sum_by-cons}
 use Rattle.std.proofs.lemmas.Map.Keys.{Less-from_sorted}
 use Rattle.std.proofs.lemmas.Slice.Eq.{bytes_eq-Decides}
 use Rattle.cr_model.specs.Problems.{ProblemParts}
@@ -14,10 +16,10 @@ use Rattle.cr_model.specs.Touches.{Kept}
 use Rattle.cr_model.specs.Nodes.{part_of, nodes_above, times_found, Independent, Covers}
 use Rattle.cr_model.specs.Books.{book_order}
 use Rattle.cr_model.specs.Checkpoints.{CanGoOn, nodes_of_jobs}
-use Rattle.cr_board.specs.Jobs.{JobParts, OpeningParts, IsOpening, opening_nodes}
-use Rattle.cr_board.specs.Boards.{BoardParts, opened, jobs_of, nodes_in, nodes_of}
+use Rattle.cr_board.specs.Jobs.{JobParts, OpeningParts, opening_nodes}
+use Rattle.cr_board.specs.Boards.{BoardParts, jobs_of, board_jobs, nodes_in, nodes_of}
 use Rattle.cr_board.specs.Partitions.{IsPartition, EachOnce, IsKept}
-use Rattle.cr_board.specs.Chains.{IsOpenedWith, jobs_left, FollowOn, found_by, left_by}
+use Rattle.cr_board.specs.Chains.{IsOpenedWith, FollowOn, found_by, spent_by, left_by}
 use Rattle.cr_board.proofs.Apart.{few_count, some_passes, one_begins_each, none_above_found}
 use Rattle.cr_board.proofs.Covering.{AreCounted, covers_same}
 use Rattle.cr_board.proofs.Parting.{begun, onward}
@@ -99,7 +101,7 @@ nodes_are (job ∷ jobs) = ap (λ l. job.nodes ++ l) (nodes_are jobs)
 
 -- a board that was opened with jobs alone has a partition of them
 module _ (p : ProblemParts) (jobs : List (List (List ℕ))) (b : BoardParts) (goes : IsOpenedWith p jobs b) where
-  of_jobs : IsPartition p [] (nodes_of_jobs jobs) b.found (nodes_of_jobs (jobs_left b)) b.spent
+  of_jobs : IsPartition p [] (nodes_of_jobs jobs) b.found (nodes_of_jobs (board_jobs b)) b.spent
   of_jobs =
       let one = goes.kept.partition.nodes in
       let two = subst (λ q. IsPartition q b.opening.found (opening_nodes b.opening) b.found (nodes_of b) b.spent) goes.problem_is one in
@@ -110,19 +112,34 @@ module _ (p : ProblemParts) (jobs : List (List (List ℕ))) (b : BoardParts) (go
 -- boards one after another go on with a partition
 chained : (p : ProblemParts) (found nodes now : List (List ℕ)) (jobs : List (List (List ℕ))) (spent : ℕ) (boards : List BoardParts)
     → IsPartition p found nodes now (nodes_of_jobs jobs) spent → FollowOn p jobs boards
-    → (used : ℕ) × IsPartition p found nodes (now ++ found_by boards) (nodes_of_jobs (left_by jobs boards)) used
-chained p found nodes now jobs spent [] part on = (spent, subst (λ l. IsPartition p found nodes l (nodes_of_jobs jobs) spent) (sym (append-nil now)) part)
+    → IsPartition p found nodes (now ++ found_by boards) (nodes_of_jobs (left_by jobs boards)) (spent + spent_by boards)
+chained p found nodes now jobs spent [] part on =
+    let same : spent ≡ spent + 0 = omega arith in
+    subst (λ l. IsPartition p found nodes l (nodes_of_jobs jobs) (spent + 0)) (sym (append-nil now)) (subst (IsPartition p found nodes now (nodes_of_jobs jobs)) same part)
 chained p found nodes now jobs spent (b ∷ boards) part (goes, on) =
-    let next = onward p found nodes now (nodes_of_jobs jobs) b.found (nodes_of_jobs (jobs_left b)) spent b.spent part (of_jobs p jobs b goes) in
-    let (used, all) = chained p found nodes (now ++ b.found) (jobs_left b) (spent + b.spent) boards next on in (
-      used,
-      subst (λ l. IsPartition p found nodes l (nodes_of_jobs (left_by (jobs_left b) boards)) used) (append_assoc now b.found (found_by boards)) all,
-    )
+    let next = onward p found nodes now (nodes_of_jobs jobs) b.found (nodes_of_jobs (board_jobs b)) spent b.spent part (of_jobs p jobs b goes) in
+    let all = chained p found nodes (now ++ b.found) (board_jobs b) (spent + b.spent) boards next on in
+    let turns : spent + b.spent + spent_by boards ≡ spent + spent_by (b ∷ boards) = omega (arith, sum_by-cons (λ one. one.spent) b boards) in
+    subst (λ l. IsPartition p found nodes l (nodes_of_jobs (left_by (board_jobs b) boards)) (spent + spent_by (b ∷ boards))) (append_assoc now b.found (found_by boards))
+    (subst (IsPartition p found nodes ((now ++ b.found) ++ found_by boards) (nodes_of_jobs (left_by (board_jobs b) boards))) turns all)
+
+pub boards_part : (p : ProblemParts) (found : List (List ℕ)) (jobs : List (List (List ℕ))) (boards : List BoardParts) → CanGoOn p found jobs → FollowOn p jobs boards
+    → IsPartition p found (nodes_of_jobs jobs) (found ++ found_by boards) (nodes_of_jobs (left_by jobs boards)) (spent_by boards)
+boards_part p found jobs boards can on =
+    let all = chained p found (nodes_of_jobs jobs) found jobs 0 boards (begun p found (nodes_of_jobs jobs) can.kept can.valid can.independent) on in
+    let turns : 0 + spent_by boards ≡ spent_by boards = omega arith in
+    subst (IsPartition p found (nodes_of_jobs jobs) (found ++ found_by boards) (nodes_of_jobs (left_by jobs boards))) turns all
+
+-- and leave no job empty
+pub boards_filled : (p : ProblemParts) (jobs : List (List (List ℕ))) (boards : List BoardParts) → All (λ job. 0 < length job) jobs → FollowOn p jobs boards
+    → All (λ job. 0 < length job) (left_by jobs boards)
+boards_filled p jobs [] filled on = filled
+boards_filled p jobs (b ∷ boards) filled (goes, on) =
+    boards_filled p (board_jobs b) boards (All-map (λ job. 0 < length job) (λ job. job.nodes) (jobs_of b) goes.kept.partition.filled) on
 
 -- and have each touch once
 pub boards_once : AreCounted → (p : ProblemParts) (found : List (List ℕ)) (jobs : List (List (List ℕ))) (boards : List BoardParts) → CanGoOn p found jobs → FollowOn p jobs boards
     → EachOnce p found (nodes_of_jobs jobs) (found ++ found_by boards) (nodes_of_jobs (left_by jobs boards))
 boards_once counted p found jobs boards can on =
-    let start = begun p found (nodes_of_jobs jobs) can.kept can.valid can.independent in
-    let (used, part) = chained p found (nodes_of_jobs jobs) found jobs 0 boards start on in
-    parts_once counted p found (nodes_of_jobs jobs) (found ++ found_by boards) (nodes_of_jobs (left_by jobs boards)) used can.ascending can.independent part
+    parts_once counted p found (nodes_of_jobs jobs) (found ++ found_by boards) (nodes_of_jobs (left_by jobs boards)) (spent_by boards)
+    can.ascending can.independent (boards_part p found jobs boards can on)

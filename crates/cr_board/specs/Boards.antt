@@ -1,5 +1,5 @@
 -- A board as the record of its parts.
-use Rattle.std.specs.Prelude.{ℕ, ◌+◌, Bool, false, List, [], ◌∷◌, ◌++◌, length, get_or, set, replicate, flat_map, sum_by, Option, Some, None}
+use Rattle.std.specs.Prelude.{ℕ, ◌+◌, Bool, false, List, [], ◌∷◌, ◌++◌, length, get_or, set, replicate, map, flat_map, sum_by, Option, Some, None}
 use Rattle.cr_board.specs.Jobs.{JobParts, OpeningParts, numbered}
 use Rattle.cr_board.specs.declared.held.Held.{Held}
 use Rattle.cr_board.specs.declared.entry.Entry.{Entry}
@@ -46,6 +46,10 @@ jobs_of b = jobs_in b.lanes b.held
 
 abbrev pub nodes_of : BoardParts → List (List ℕ)
 nodes_of b = nodes_in (jobs_of b)
+
+-- the nodes of each job of a board: those of the lanes, and then those that are held
+abbrev pub board_jobs : BoardParts → List (List (List ℕ))
+board_jobs b = map (λ job. job.nodes) (jobs_of b)
 
 -- the turns that are spent or granted
 abbrev pub promised : BoardParts → ℕ

@@ -4,7 +4,7 @@ ghost use Rattle.std.specs.Prelude.{◌≡◌, ℕ, ◌+◌, ◌<◌, ◌≤◌,
 ghost use Rattle.std.specs.List.Sorted.{IsStrictlySortedBy};
 ghost use Rattle.cr_model.specs.Problems.{ProblemParts};
 ghost use Rattle.cr_model.specs.Touches.{Kept};
-ghost use Rattle.cr_model.specs.Nodes.{IsValid, Independent, Covers};
+ghost use Rattle.cr_model.specs.Nodes.{IsValid, Independent, Covers, nodes_above, times_found};
 ghost use Rattle.cr_model.specs.Sizes.{most_rows, size_of_all};
 ghost use Rattle.cr_model.specs.Books.{book_order};
 ghost use Rattle.cr_model.specs.Checkpoints.{CanGoOn, nodes_of_jobs};
@@ -13,7 +13,7 @@ ghost use Rattle.cr_board.specs.Jobs.{OpeningParts, IsOpening, opening_nodes};
 ghost use Rattle.cr_board.specs.Boards.{BoardParts, opened, lane_at, held_at, held_jobs, jobs_of, nodes_of};
 ghost use Rattle.cr_board.specs.Halls.{IsReplayed, IsAllowed, AreAllowed, start, replay, times_in, grant_of, granted, numbers_of, hall_of, backs};
 ghost use Rattle.cr_board.specs.Partitions.{HasShape, IsPartition, EachOnce, Partition, IsKept};
-ghost use Rattle.cr_board.specs.Chains.{FollowOn, found_by, left_by};
+ghost use Rattle.cr_board.specs.Chains.{FollowOn, found_by, spent_by, left_by};
 ghost use Rattle.cr_board.specs.Choices.{round, next_answer, claim_place, claim_answer, entries_taken, entries_claimed, IfJob, IfClaimed};
 ghost use Rattle.cr_board.specs.Moves.{halves, after_next, after_claim, handed_in, after_resigning, after_recall};
 ghost use Rattle.cr_board.specs.Steps.{EventStep, Ran};
@@ -120,6 +120,8 @@ pub fn partitions_follow_one_another()
 /// follows sorted touches that are apart from the nodes, on every board, after any events from an opening, and over any
 /// number of boards that go on one after another from what an input has found and left.
 pub fn each_touch_stands_once()
+    ensures at_first { (p : ProblemParts) (found nodes : List (List ℕ)) (calling : List ℕ) → IsStrictlySortedBy (book_order p) found
+        → Independent p found nodes → times_found found calling + nodes_above p nodes calling ≤ 1 }
     ensures parts { (p : ProblemParts) (found nodes now left : List (List ℕ)) (spent : ℕ) → IsStrictlySortedBy (book_order p) found
         → Independent p found nodes → IsPartition p found nodes now left spent → EachOnce p found nodes now left }
     ensures board { (b : BoardParts) → IsKept b
@@ -180,6 +182,16 @@ pub fn every_board_has_each_once(board: &Board)
     each_touch_stands_once();
     no_number_is_drawn_twice();
 }
+
+/// Boards that go on one after another from what an input has found and left keep a partition of that, in which all
+/// their turns are spent, and leave no job empty.
+pub fn boards_follow_one_another()
+    ensures partition { (p : ProblemParts) (found : List (List ℕ)) (jobs : List (List (List ℕ))) (boards : List BoardParts)
+        → CanGoOn p found jobs → FollowOn p jobs boards
+        → IsPartition p found (nodes_of_jobs jobs) (found ++ found_by boards) (nodes_of_jobs (left_by jobs boards)) (spent_by boards) }
+    ensures filled { (p : ProblemParts) (jobs : List (List (List ℕ))) (boards : List BoardParts)
+        → All (λ job. 0 < length job) jobs → FollowOn p jobs boards → All (λ job. 0 < length job) (left_by jobs boards) }
+{}
 
 /// Where a worker is answered that all is empty, no job is left.
 pub fn an_empty_board_is_done()

@@ -1,7 +1,10 @@
 use Rattle.cr_board.specs.Boards.{opened}
 use Rattle.cr_board.proofs.Keeping.{open_keeps, events_keep, opening_kept}
-use Rattle.cr_board.proofs.Once.{parts_once, board_once, board_from_once, boards_once}
+use Rattle.cr_board.proofs.Once.{at_most_once, parts_once, board_once, board_from_once, boards_once}
 use Rattle.cr_board.proofs.laws.each_touch_stands_once.Goals as goal
+
+pub returns-clause-at_first : goal.returns-clause-at_first
+returns-clause-at_first c = λ p found nodes calling ascending apart. at_most_once p found nodes ascending apart calling
 
 pub returns-clause-parts : goal.returns-clause-parts
 returns-clause-parts c = parts_once c.covers_are_counted.ensures
