@@ -1,4 +1,4 @@
-use Rattle.std.proofs.Common.{◌≡◌, ◌++◌, [], map, reverse, sym, ap, ◌∙◌}
+use Rattle.std.proofs.Common.{◌++◌, map, reverse, ap, ◌∙◌}
 use Rattle.std.specs.Prelude.{flat_map}
 use Rattle.cr_board.specs.Boards.{held_jobs}
 use Rattle.cr_board.specs.Rooms.{jobs_on, nodes_on}
