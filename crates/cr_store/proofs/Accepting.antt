@@ -77,15 +77,6 @@ module _ (p : ProblemParts) (shape : ShapeParts) (found nodes : List (List ℕ))
       by (inl one) = inr (text ∙ ap (λ v. versioned_text p v shape.problem found jobs) one)
       by (inr two) = inl (text ∙ ap (λ v. versioned_text p v shape.problem found jobs) two)
 
--- touches in strict order differ
-pub apart_in_order : (p : ProblemParts) (found : List (List ℕ)) → IsStrictlySortedBy (book_order p) found → (i j : ℕ) → i < j → j < length found
-    → get_or found i [] ≢ get_or found j []
-apart_in_order p found ascending i j before inside same =
-    let less : book_order p (get_or found i []) (get_or found j []) ≡ Less = Less-from_sorted (book_order p) found i j [] ascending before inside in
-    let itself : book_order p (get_or found j []) (get_or found j []) ≡ Less = subst (λ c. book_order p c (get_or found j []) ≡ Less) same less in
-    let turned : Less ≡ Greater = sym itself ∙ (order_total p).antisymm (get_or found j []) (get_or found j []) ∙ ap ordering_reverse itself in
-    absurd (cc)
-
 -- what is made of a shape, of found touches and of nodes is a checkpoint
 pub made_accepted : (bytes : List ℕ) (shape : ShapeParts) (p : ProblemParts) (found nodes : List (List ℕ)) (c : Progress) → HasLines bytes shape p found nodes
     → AllHold (item_checks p shape found nodes) → IsMadeOf shape p found nodes c → CheckFile bytes c.bytes c.problem c.found c.jobs

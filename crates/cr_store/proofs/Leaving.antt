@@ -2,6 +2,7 @@
 use Rattle.std.proofs.Common.{◌≡◌, ℕ, zero, suc, ◌+◌, ◌<◌, ◌≤◌, ◌⊎◌, ◌↔◌, true, false, nat_eq, List, [], ◌∷◌, ◌++◌, length, get_or, map, All, Contains, inl, inr, refl, sym, ap, ◌∙◌, subst, arith}
 use Rattle.std.specs.Cmp.Lexicographic.{pointwise}
 use Rattle.std.specs.List.Sorted.{IsPermutation, IsSorted, IsStrictlySortedBy}
+use Rattle.std.proofs.lemmas.Bool.{cases_lt}
 use Rattle.std.proofs.lemmas.List.{get_or_default}
 use Rattle.std.proofs.lemmas.List.Elements.{All-map}
 use Rattle.std.proofs.lemmas.List.Sorted.{IsPermutation-sym, All-permutation, Contains-permutation}
@@ -12,12 +13,9 @@ use Rattle.cr_model.specs.Nodes.{is_above, times_found, Covers, Independent}
 use Rattle.cr_model.specs.Books.{book_order}
 use Rattle.cr_model.specs.Checkpoints.{CanGoOn, nodes_of_jobs}
 use Rattle.cr_board.specs.Jobs.{JobParts, opening_nodes}
-use Rattle.cr_board.specs.Boards.{BoardParts, jobs_of, nodes_in, nodes_of}
-use Rattle.cr_board.specs.Partitions.{IsPartition, IsKept}
+use Rattle.cr_board.specs.Boards.{BoardParts, jobs_of, board_jobs, nodes_in, nodes_of}
+use Rattle.cr_board.specs.Partitions.{IsPartition, EachOnce, IsKept}
 use Rattle.cr_store.specs.Searches.{WentOn}
-use Rattle.cr_store.specs.Written.{board_jobs}
-use Rattle.cr_store.proofs.Accepting.{apart_in_order}
-use Rattle.cr_store.proofs.Once.{once, some_passes}
 
 -- what the law on sorted touches says
 abbrev Strict : Type 0
@@ -25,22 +23,13 @@ Strict = (p : ProblemParts) (callings sorted : List (List ℕ)) → IsPermutatio
     → ((calling : List ℕ) → times_found callings calling ≤ 1) → IsStrictlySortedBy (book_order p) sorted
 
 module _ (p : ProblemParts) (before : List (List ℕ)) (begun : List (List (List ℕ))) (now : List (List ℕ)) (left : List (List (List ℕ))) (spent : ℕ)
-    (way : WentOn p before begun now left spent) where
+    (way : WentOn p before begun now left spent) (once : EachOnce p before (nodes_of_jobs begun) now (nodes_of_jobs left)) where
   -- nothing was found twice
   found_once : (calling : List ℕ) → times_found now calling ≤ 1
-  found_once calling = by (times_found now calling) refl
-    where
-      one : Kept p calling → times_found now calling ≤ 1
-      one is =
-          let part = way.nodes.each calling is in
-          let few = once p before (nodes_of_jobs begun) (apart_in_order p before way.began.ascending) way.began.independent calling in
-          omega (arith, part, few)
-
-      by : (n : ℕ) → times_found now calling ≡ n → times_found now calling ≤ 1
-      by zero none = omega arith
-      by (suc n) some =
-          let (j, inside, same) = some_passes (pointwise nat_eq calling) now [] (omega arith) in
-          one (subst (Kept p) (sym ((bytes_eq-Decides calling (get_or now j [])).0 same)) (way.nodes.kept j [] inside))
+  found_once calling = elim (cases_lt 1 (times_found now calling)) [
+    | inl more ↦ absurd (omega (arith, more, once.unfound calling (λ covers. absurd (omega (arith, more, once.covered calling covers)))))
+    | inr few ↦ omega (arith, few)
+  ]
 
   module _ (found : List (List ℕ)) (same : IsPermutation now found) where
     -- no node is above a found touch, in whatever order they stand

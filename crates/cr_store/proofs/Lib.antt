@@ -1,4 +1,3 @@
-pub mod Once
 pub mod Shortness
 pub mod Words
 pub mod StepTexts

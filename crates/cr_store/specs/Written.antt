@@ -4,7 +4,8 @@ use Rattle.std.specs.Global.{Vec}
 use Rattle.std.specs.List.Sorted.{IsPermutation}
 use Rattle.cr_model.specs.Checkpoints.{CheckFile, checkpoint_text}
 use Rattle.cr_board.specs.Jobs.{JobParts}
-use Rattle.cr_board.specs.Boards.{BoardParts, jobs_of}
+use Rattle.cr_board.specs.Boards.{BoardParts}
+pub use Rattle.cr_board.specs.Boards.{board_jobs}
 
 -- jobs as lists of their nodes
 abbrev pub lists : List (Vec (List ℕ)) → List (List (List ℕ))
@@ -14,10 +15,6 @@ lists jobs = map (λ job. job.items) jobs
 abbrev pub nodes_held : Option JobParts → List (List (List ℕ))
 nodes_held None = []
 nodes_held (Some job) = job.nodes ∷ []
-
--- the nodes of each job of a board: those of the lanes, and then those that are held
-abbrev pub board_jobs : BoardParts → List (List (List ℕ))
-board_jobs b = map (λ job. job.nodes) (jobs_of b)
 
 -- the text is the checkpoint, in version 2, of all that the board found and all its jobs. Reading it gives these again
 pub record IsWritten (bytes : List ℕ) (b : BoardParts) (text : List ℕ) : Type 0 where

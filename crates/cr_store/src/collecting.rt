@@ -7,11 +7,11 @@ ghost use Rattle.cr_model.specs.Nodes.{Covers};
 ghost use Rattle.cr_model.specs.Sizes.{most_rows, size_of_all};
 ghost use Rattle.cr_model.specs.Checkpoints.{CanGoOn, nodes_of_jobs};
 ghost use Rattle.cr_board.specs.Jobs.{opening_nodes};
-ghost use Rattle.cr_board.specs.Boards.{held_jobs};
+ghost use Rattle.cr_board.specs.Boards.{held_jobs, board_jobs};
 ghost use Rattle.cr_store.specs.Searches.{WentOn};
-ghost use Rattle.cr_store.specs.Written.{lists, nodes_held, board_jobs};
+ghost use Rattle.cr_store.specs.Written.{lists, nodes_held};
 
-use cr_board::laws::partitions_follow_one_another;
+use cr_board::laws::{each_touch_stands_once, partitions_follow_one_another};
 use cr_board::{Board, LaneJob};
 use cr_book::laws::what_is_sorted_is_the_book;
 use cr_book::sort_found;
@@ -66,6 +66,7 @@ pub fn left_in_order(
         → Covers problem.now left.found.items (nodes_of_jobs (lists left.jobs.items)) calling
         ↔ Covers problem.now before (nodes_of_jobs begun) calling) }
 {
+    each_touch_stands_once();
     partitions_follow_one_another();
     what_is_sorted_is_the_book();
     let found = sort_found(alloc, problem, found)?;

@@ -1,24 +1,29 @@
 //! Laws of checkpoints and of inputs. Each is the contract of a function that does nothing.
 
-ghost use Rattle.std.specs.Prelude.{◌≡◌, ◌⊎◌, ◌+◌, ◌^◌, ◌<◌, ◌≤◌, ℕ, List, [], ◌∷◌, length, map, All};
+ghost use Rattle.std.specs.Prelude.{◌≡◌, ◌⊎◌, ◌+◌, ◌^◌, ◌<◌, ◌≤◌, ◌++◌, ℕ, List, [], ◌∷◌, length, map, All};
 ghost use Rattle.cr_model.specs.Problems.{ProblemParts};
 ghost use Rattle.cr_model.specs.Nodes.{nodes_above, times_found};
 ghost use Rattle.cr_model.specs.Books.{IsBook};
 ghost use Rattle.cr_model.specs.Checkpoints.{CanGoOn, CheckFile, IsCheckpoint, checkpoint_text, nodes_of_jobs};
 ghost use Rattle.cr_model.specs.Inputs.{Input, SameCover};
 ghost use Rattle.cr_model.specs.ProblemFiles.{ProblemFile};
+ghost use Rattle.cr_board.specs.Boards.{BoardParts};
+ghost use Rattle.cr_board.specs.Partitions.{EachOnce};
+ghost use Rattle.cr_board.specs.Chains.{FollowOn, found_by, spent_by, left_by};
 ghost use Rattle.cr_store.specs.declared.fault.CheckFault.{CheckFault};
 ghost use Rattle.cr_store.specs.Chains.{AreSame, IsChain, last_text};
 ghost use Rattle.cr_store.specs.Lines.{node_lines_of, item_numbers, last_line, line_of, left_out, numbered_example, StandsOn};
 ghost use Rattle.cr_store.specs.Shapes.{ShapeParts, HasShape, found_text, node_text};
 ghost use Rattle.cr_store.specs.Reading.{touch_line_at, node_line_at};
 ghost use Rattle.cr_store.specs.Progress.{Progress};
+ghost use Rattle.cr_store.specs.Searches.{WentOn};
 ghost use Rattle.cr_store.specs.Faults.{FirstCheckFault};
 
 use crate::shape_laws::{
     a_text_has_a_shape_or_a_fault, a_text_has_one_shape, no_text_has_shape_and_fault,
     one_line_is_first_wrong,
 };
+use cr_board::laws::{boards_follow_one_another, each_touch_stands_once};
 use cr_book::laws::callings_differ_in_their_texts;
 use cr_model::laws::{a_test_decides_what_is_kept, book_is_unique};
 use cr_node::laws::{
@@ -31,7 +36,22 @@ use cr_read::{a_file_is_taken_or_refused, bytes_have_one_answer as one_answer_of
 pub fn each_touch_is_covered_once()
     ensures { (p : ProblemParts) (found : List (List ℕ)) (jobs : List (List (List ℕ))) → CanGoOn p found jobs → (calling : List ℕ)
         → times_found found calling + nodes_above p (nodes_of_jobs jobs) calling ≤ 1 }
-{}
+{
+    each_touch_stands_once();
+}
+
+/// A search that went on has each kept touch that it began with once: it was found once, or has one node above it, and
+/// never both. So it is over any number of boards, each of which was opened with what the one before it left.
+pub fn a_search_has_each_touch_once()
+    ensures touches { (p : ProblemParts) (found : List (List ℕ)) (jobs : List (List (List ℕ))) (now : List (List ℕ)) (left : List (List (List ℕ))) (spent : ℕ)
+        → WentOn p found jobs now left spent → EachOnce p found (nodes_of_jobs jobs) now (nodes_of_jobs left) }
+    ensures boards { (p : ProblemParts) (found : List (List ℕ)) (jobs : List (List (List ℕ))) (boards : List BoardParts)
+        → CanGoOn p found jobs → FollowOn p jobs boards
+        → WentOn p found jobs (found ++ found_by boards) (left_by jobs boards) (spent_by boards) }
+{
+    each_touch_stands_once();
+    boards_follow_one_another();
+}
 
 /// Bytes are the checkpoint of one problem, found list and list of jobs at most, they have one first fault at most, and
 /// never both. They are so few as any machine can hold.
