@@ -1,19 +1,17 @@
 -- What a search found and left: once it is sorted a search can go on from it, and it covers the same.
-use Rattle.std.proofs.Common.{◌≡◌, ℕ, zero, suc, ◌+◌, ◌<◌, ◌≤◌, ◌⊎◌, ◌↔◌, true, false, nat_eq, List, [], ◌∷◌, ◌++◌, length, get_or, map, All, Contains, inl, inr, refl, sym, ap, ◌∙◌, subst, arith}
-use Rattle.std.specs.Cmp.Lexicographic.{pointwise}
+use Rattle.std.proofs.Common.{◌≡◌, ℕ, ◌<◌, ◌≤◌, ◌⊎◌, ◌↔◌, true, false, List, [], ◌∷◌, ◌++◌, length, get_or, map, Contains, inl, inr, refl, sym, ap, subst, arith}
 use Rattle.std.specs.List.Sorted.{IsPermutation, IsSorted, IsStrictlySortedBy}
 use Rattle.std.proofs.lemmas.Bool.{cases_lt}
 use Rattle.std.proofs.lemmas.List.{get_or_default}
 use Rattle.std.proofs.lemmas.List.Elements.{All-map}
 use Rattle.std.proofs.lemmas.List.Sorted.{IsPermutation-sym, All-permutation, Contains-permutation}
-use Rattle.std.proofs.lemmas.Slice.Eq.{bytes_eq-Decides}
 use Rattle.cr_model.specs.Problems.{ProblemParts}
 use Rattle.cr_model.specs.Touches.{Kept}
 use Rattle.cr_model.specs.Nodes.{is_above, times_found, Covers, Independent}
 use Rattle.cr_model.specs.Books.{book_order}
 use Rattle.cr_model.specs.Checkpoints.{CanGoOn, nodes_of_jobs}
 use Rattle.cr_board.specs.Jobs.{JobParts, opening_nodes}
-use Rattle.cr_board.specs.Boards.{BoardParts, jobs_of, board_jobs, nodes_in, nodes_of}
+use Rattle.cr_board.specs.Boards.{BoardParts, jobs_of, board_jobs, nodes_in}
 use Rattle.cr_board.specs.Partitions.{IsPartition, EachOnce, IsKept}
 use Rattle.cr_store.specs.Searches.{WentOn}
 

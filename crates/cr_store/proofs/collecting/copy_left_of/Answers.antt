@@ -1,4 +1,4 @@
-use Rattle.std.proofs.Common.{◌≡◌, ap, ◌∙◌}
+use Rattle.std.proofs.Common.{ap, ◌∙◌}
 use Rattle.cr_model.specs.Checkpoints.{CanGoOn}
 use Rattle.cr_store.specs.Written.{lists}
 use Rattle.cr_store.proofs.Leaving.{of_board}

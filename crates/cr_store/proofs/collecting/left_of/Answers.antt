@@ -1,5 +1,5 @@
 -- From the board's partition.
-use Rattle.std.proofs.Common.{◌≡◌, ◌↔◌, ap, ◌∙◌}
+use Rattle.std.proofs.Common.{◌↔◌, ap, ◌∙◌}
 use Rattle.cr_model.specs.Nodes.{Covers}
 use Rattle.cr_model.specs.Checkpoints.{CanGoOn, nodes_of_jobs}
 use Rattle.cr_board.specs.Jobs.{opening_nodes}

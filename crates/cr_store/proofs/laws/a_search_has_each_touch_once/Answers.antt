@@ -1,5 +1,4 @@
 use Rattle.cr_model.specs.Checkpoints.{nodes_of_jobs}
-use Rattle.cr_board.specs.Chains.{found_by, spent_by, left_by}
 use Rattle.cr_store.proofs.laws.a_search_has_each_touch_once.Goals as goal
 
 pub returns : goal.returns
