@@ -11,3 +11,4 @@ pub mod Lines
 pub mod Fronts
 mod Groups
 mod Jobs
+pub mod Cuts

@@ -3,3 +3,4 @@ pub mod Repeated
 pub mod Tables
 pub mod Shared
 pub mod Numbers
+pub mod Room

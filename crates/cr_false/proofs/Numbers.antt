@@ -14,7 +14,7 @@ use Rattle.cr_rowset.specs.Stacks.{AllDiffer}
 use Rattle.cr_leads.specs.Tables.{TableParts}
 use Rattle.cr_false.specs.Sets.{IsSetOf, HasNumber, IsFalsePair, IsWholeNumber, IsFalseTable, FalseParts, pairs}
 
-distinct : (rows : List (List ℕ)) → AllDiffer rows → IsDistinct (pointwise nat_eq) rows
+pub distinct : (rows : List (List ℕ)) → AllDiffer rows → IsDistinct (pointwise nat_eq) rows
 distinct rows differ = IsDistinct-from_apart (pointwise nat_eq) rows (λ i j d before within.
     false_from_ne_true (pointwise nat_eq (get_or rows i d) (get_or rows j d)) (λ e.
     differ i j before within (get_or_default rows i [] d (omega (arith, before, within)) ∙ (bytes_eq-Decides (get_or rows i d) (get_or rows j d)).0 e

@@ -7,10 +7,10 @@ use Rattle.std.proofs.lemmas.List.FromFn.{get_or-range_with_len, length-range_wi
 use Rattle.std.proofs.lemmas.Slice.Zip.{all_zipped_more, AllZip-long}
 use Rattle.cr_rowset.specs.Stacks.{StackParts}
 use Rattle.cr_leads.specs.Tables.{TableParts, lead_rows}
-use Rattle.cr_false.specs.Sets.{FalseParts, IsFalse, IsFalsePair, IsFalseTable, IsSetOf, HasTwice, TellsTwice, pairs, steps_counted, AreKept}
+use Rattle.cr_false.specs.Sets.{FalseParts, IsFalse, IsFalsePair, IsFalseTable, IsSetOf, HasNumber, HasTwice, TellsTwice, pairs, steps_counted, AreKept}
 
 -- a relation at an index
-all_zip_at : {A B : Type 0} (R : A → B → Type 0) (xs : List A) (ys : List B) (i : ℕ) (d : A) (e : B) → AllZip R xs ys → i < length xs → R (get_or xs i d) (get_or ys i e)
+pub all_zip_at : {A B : Type 0} (R : A → B → Type 0) (xs : List A) (ys : List B) (i : ℕ) (d : A) (e : B) → AllZip R xs ys → i < length xs → R (get_or xs i d) (get_or ys i e)
 all_zip_at R [] [] i d e h within = absurd (omega (arith, within))
 all_zip_at R [] (y ∷ ys) i d e h within = absurd h
 all_zip_at R (x ∷ xs) [] i d e h within = absurd h
@@ -95,6 +95,18 @@ collected {T = T} {E = E} R places xs ys items all are is =
 -- as many as there are pairs
 pub pairs_counted : {B : Type 0} (R : ℕ → B → Type 0) (table : TableParts) (ys : List B) → AllZip R (pairs table) ys → length ys ≡ 24 * length table.leads
 pairs_counted R table ys all = AllZip-long R (pairs table) ys all ∙ length-range_with_len 0 (24 * length table.leads)
+
+-- the number of a pair
+pub number_at : (table : TableParts) (numbers : List ℕ) (pair : ℕ) → AllZip (λ pair number. HasNumber (IsFalsePair table pair) number) (pairs table) numbers
+    → pair < 24 * length table.leads → HasNumber (IsFalsePair table pair) (get_or numbers pair 0) × (pair < length numbers)
+number_at table numbers pair all within =
+    let inside : pair < length (pairs table) = subst (λ n. pair < n) (sym (length-range_with_len 0 (24 * length table.leads))) within in
+    let at : get_or (pairs table) pair 0 ≡ pair = get_or-range_with_len 0 (24 * length table.leads) pair 0 within ∙ (let z : 0 + pair ≡ pair = omega arith in z) in
+    let long = pairs_counted (λ pair number. HasNumber (IsFalsePair table pair) number) table numbers all in (
+      subst (λ (n : ℕ). HasNumber (IsFalsePair table n) (get_or numbers pair 0)) at
+          (all_zip_at (λ pair number. HasNumber (IsFalsePair table pair) number) (pairs table) numbers pair 0 0 all inside),
+      omega (arith, long, within),
+    )
 
 pub kept : (table : TableParts) (sets : List StackParts) (twice : List Bool) → length table.leads ≤ 24
     → AllZip (λ pair (set : StackParts). IsSetOf (IsFalsePair table pair) set.rows) (pairs table) sets

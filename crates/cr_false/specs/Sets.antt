@@ -36,6 +36,10 @@ pub record IsSetOf (member : List ℕ → Type 0) (rows : List (List ℕ)) : Typ
   pub differ : AllDiffer rows
   pub all : (g : List ℕ) → Contains rows g ↔ member g
 
+-- there is room for a set: no list of different members is longer
+pub record IsRoomFor (member : List ℕ → Type 0) (room : ℕ) : Type 0 where
+  pub enough : (rows : List (List ℕ)) → AllDiffer rows → ((g : List ℕ) → Contains rows g → member g) → length rows ≤ room
+
 -- a set has so many rows
 pub record HasNumber (member : List ℕ → Type 0) (number : ℕ) : Type 0 where
   pub rows : List (List ℕ)

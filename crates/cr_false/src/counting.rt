@@ -1,6 +1,6 @@
 //! The pairs of steps, by many threads.
 
-ghost use Rattle.std.specs.Prelude.{◌≡◌, ◌≤◌, length, sum, IfOk};
+ghost use Rattle.std.specs.Prelude.{◌≡◌, ◌<◌, ◌≤◌, length, slice_index, sum, IfOk};
 ghost use Rattle.std.specs.List.{AllZip};
 ghost use Rattle.cr_false.specs.Sets.{IsFalsePair, IsSetOf, HasNumber, pairs};
 
@@ -33,13 +33,14 @@ pub fn numbers_of(
         .collect::<Result<Vec<u32>, NoMemory>>(rt, alloc)?
 }
 
-/// Of each pair of steps the false rows. The numbers are the room that each needs.
+/// Of each pair of steps the false rows, in a stack with room for so many as there are.
 pub fn sets_of(
     rt: &(impl Threads + Sync),
     alloc: Global,
     leads: &LeadTable,
     numbers: &[u32],
 ) -> Result<Vec<RowStack>, NoMemory>
+    requires { AllZip (λ pair number. HasNumber (IsFalsePair leads.now pair) number) (pairs leads.now) numbers.now }
     ensures { IfOk result (λ sets. AllZip (λ pair set. IsSetOf (IsFalsePair leads.now pair) set.rows) (pairs leads.now) sets.items) }
 {
     let end = MOST_STEPS * usize::from(leads.count());
@@ -48,8 +49,10 @@ pub fn sets_of(
         .with_min_len(MOST_STEPS)
         .map(
             |pair: usize| -> Result<RowStack, NoMemory>
+                requires number { HasNumber (IsFalsePair leads.now pair) (slice_index numbers.now pair) }
+                requires within { pair < length numbers.now }
                 ensures { IfOk result (λ set. IsSetOf (IsFalsePair leads.entry.now pair) set.rows) }
-            { set_of(alloc, leads, pair, room_for(numbers, pair)) },
+            { set_with(alloc, leads, pair, numbers[pair]) },
         )
         .collect::<Result<Vec<RowStack>, NoMemory>>(rt, alloc)?
 }
@@ -66,20 +69,23 @@ pub fn total(numbers: &[u32]) -> u64
     total
 }
 
+// The false rows of a pair of steps, in a stack with room for so many.
+fn set_with(
+    alloc: Global,
+    leads: &LeadTable,
+    pair: usize,
+    number: u32,
+) -> Result<RowStack, NoMemory>
+    requires { HasNumber (IsFalsePair leads.now pair) number }
+    ensures { IfOk result (λ set. IsSetOf (IsFalsePair leads.now pair) set.rows) }
+{
+    set_of(alloc, leads, pair, u64::from(number))
+}
+
 // How many false rows a pair of steps has.
 fn number_of(alloc: Global, leads: &LeadTable, pair: usize) -> Result<u32, NoMemory>
     ensures { IfOk result (λ number. HasNumber (IsFalsePair leads.now pair) number) }
 {
     let set = set_of(alloc, leads, pair, most_of(leads, pair))?;
-    match u32::try_from(set.len()) {
-        Ok(number) => Ok(number),
-        Err(_) => Err(NoMemory),
-    }
-}
-
-fn room_for(numbers: &[u32], pair: usize) -> u64 {
-    match numbers.get(pair) {
-        Some(number) => u64::from(*number),
-        None => 0,
-    }
+    Ok(set.len() as u32)
 }

@@ -81,6 +81,7 @@ impl<'a> Leads<'a> {
 
     /// The number of changes of the shortest lead.
     pub fn shortest(&self) -> u64
+        ensures is { result ≡ shortest self.now }
         ensures some { 1 ≤ result }
         ensures few { result ≤ 128 }
     {

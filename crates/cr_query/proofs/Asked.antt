@@ -13,10 +13,10 @@ use Rattle.cr_query.specs.declared.numbers.Numbers.{Numbers}
 use Rattle.cr_query.specs.Gauges.{at_number, raised, is_out, is_com_out, hopeless_with, has_more_rows, AreOf}
 use Rattle.cr_query.specs.Hits.{mark_steps, letter_steps}
 use Rattle.cr_model.specs.Dead.{is_too_many, is_too_few}
-use Rattle.cr_query.specs.Meters.{marked, lettered, fitted, has_too_many_leads, has_too_few_leads, has_too_few_rows, is_hopeless_by_leads}
+use Rattle.cr_query.specs.Meters.{marked, lettered, fitted, has_too_many_leads, has_too_few_leads, has_too_few_rows, has_too_many_rows, is_hopeless_by_leads, is_hopeless_by_rows}
 use Rattle.cr_query.specs.Sets.{has_step}
 use Rattle.cr_query.proofs.StepSets.{steps_are}
-use Rattle.cr_query.proofs.Tellings.{in_order, many_in_order}
+use Rattle.cr_query.proofs.Tellings.{any_mapped, in_order, many_in_order}
 
 -- a gauge asked for a step that it counts or not
 pub counted_or_not : (more : ℕ) (gauge : Gauge) (counted : Bool)
@@ -93,3 +93,16 @@ by_rows p node rows told is =
     beside true b x y off = absurd (false≢true (sym off))
     beside false true x y off = absurd (false≢true (sym off))
     beside false false x y off = refl
+
+-- leads and rows are told apart
+pub leads_or_rows : (p : ProblemParts) (node : List ℕ) → (is_too_many p node || is_too_few p node) ≡ (is_hopeless_by_leads p node || is_hopeless_by_rows p node)
+leads_or_rows p node =
+    let is = sym (any_mapped has_more_rows (fitted p node) p.query.patterns) in
+    sym (ap₂ (λ a b. a || b) (many_in_order p node (has_too_many_rows p node) is) (in_order _ _ _ (has_too_few_rows p node)))
+    ∙ apart (has_too_many_leads p node) (has_too_few_leads p node) (has_too_many_rows p node) (has_too_few_rows p node)
+  where
+    apart : (a b x y : Bool) → ((a || x) || (b || y)) ≡ ((a || b) || (x || y))
+    apart true b x y = refl
+    apart false true true y = refl
+    apart false true false y = refl
+    apart false false x y = refl

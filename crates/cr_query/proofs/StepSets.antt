@@ -1,10 +1,11 @@
 -- Sets of steps, a bit for each.
-use Rattle.std.proofs.Common.{◌≡◌, ◌≢◌, ℕ, zero, suc, ◌+◌, ◌-◌, ◌*◌, ◌%◌, ◌^◌, ◌<◌, ◌≤◌, Bool, true, false, cond, ◌||◌, max, nat_eq, refl, sym, ap, ap₂, subst, ◌∙◌, inl, inr, arith}
+use Rattle.std.proofs.Common.{◌≡◌, ◌≢◌, ℕ, zero, suc, ◌+◌, ◌-◌, ◌*◌, ◌%◌, ◌^◌, ◌<◌, ◌≤◌, Bool, true, false, cond, ◌||◌, max, min, nat_eq, refl, sym, ap, ap₂, subst, ◌∙◌, inl, inr, arith}
 use Rattle.std.specs.Int.{bit_at, w32}
-use Rattle.std.specs.Int.RustNames.{bit_or}
+use Rattle.std.specs.Int.RustNames.{bit_or, bit_and}
 use Rattle.std.specs.Int.Bits.{bit_xor}
 use Rattle.std.proofs.lemmas.Bool.{cases_eq}
-use Rattle.std.proofs.lemmas.Nat.Bits.{bit_at-zero, bit_at-lt, bit_at_ones, bit_at_or, bit_at_xor, bit_at_set_same, bit_at_set_other}
+use Rattle.std.proofs.lemmas.Nat.{pow_below}
+use Rattle.std.proofs.lemmas.Nat.Bits.{bit_at-zero, bit_at-lt, bit_at_and, bit_at_ones, bit_at_ones_above, bit_at_or, bit_at_xor, bit_at_set_same, bit_at_set_other}
 use Rattle.cr_query.specs.Sets.{has_step, put, steps_of}
 
 bits_or : (a b : ℕ) → a < 2 → b < 2 → nat_eq (max a b) 1 ≡ (nat_eq a 1 || nat_eq b 1)
@@ -96,6 +97,28 @@ module _ (test : ℕ → Bool) where
 
 pub steps_are : (test : ℕ → Bool) (number step : ℕ) → number ≤ 32 → step < number → has_step (steps_of test number) step ≡ test step
 steps_are test number step low inside = (all_steps test number low).have step inside
+
+pub no_steps_beyond : (test : ℕ → Bool) (number step : ℕ) → number ≤ 32 → number ≤ step → has_step (steps_of test number) step ≡ false
+no_steps_beyond test number step low beyond = (all_steps test number low).free step beyond
+
+-- the bits below a number
+pub mask_is : (number : ℕ) → number < 32 → 1 * 2 ^ number % 2 ^ 32 - 1 ≡ 2 ^ number - 1
+mask_is number low =
+    let small : 2 ^ number < 4294967296 = pow_below number 32 low in
+    omega (arith, small)
+
+module _ (set number mask : ℕ) (is : mask ≡ 2 ^ number - 1) where
+  pub first_same : (step : ℕ) → step < number → has_step (bit_and set mask) step ≡ has_step set step
+  first_same step below =
+      let one : bit_at mask step ≡ 1 = ap (λ n. bit_at n step) is ∙ bit_at_ones number step below in
+      let same : min (bit_at set step) 1 ≡ bit_at set step = omega (arith, bit_at-lt set step) in
+      ap (λ n. nat_eq n 1) (bit_at_and set mask step ∙ ap (min (bit_at set step)) one ∙ same)
+
+  pub none_beyond : (step : ℕ) → number ≤ step → has_step (bit_and set mask) step ≡ false
+  none_beyond step beyond =
+      let none : bit_at mask step ≡ 0 = ap (λ n. bit_at n step) is ∙ bit_at_ones_above number step beyond in
+      let nothing : min (bit_at set step) 0 ≡ 0 = omega arith in
+      ap (λ n. nat_eq n 1) (bit_at_and set mask step ∙ ap (min (bit_at set step)) none ∙ nothing)
 
 -- the set so far, of a loop over the steps
 pub no_steps : (test : ℕ → Bool) → 0 ≡ steps_of test 0

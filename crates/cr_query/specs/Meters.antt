@@ -46,6 +46,11 @@ has_too_few_leads p node =
     || (list_any (λ count. int_lt (pos (parts_of p * (leads_lettered p count.letter node + leads_left p node))) count.min) p.query.method_counts
     || below_com p.query.com (parts_of p * (changes_of_method p node + leads_left p node) + parts_of p - 1))
 
+-- it has more rows than a pattern allows
+abbrev pub has_too_many_rows : ProblemParts → List ℕ → Bool
+has_too_many_rows p node =
+    list_any (λ pattern. int_lt pattern.max (pos (rows_fitting pattern.cells (rows_of p node)))) p.query.patterns
+
 -- if all rows that are left fitted, it would still have too few
 abbrev pub has_too_few_rows : ProblemParts → List ℕ → Bool
 has_too_few_rows p node =
@@ -54,6 +59,10 @@ has_too_few_rows p node =
 -- a node that has too many or too few, told by its leads alone: patterns are not looked at
 abbrev pub is_hopeless_by_leads : ProblemParts → List ℕ → Bool
 is_hopeless_by_leads p node = has_too_many_leads p node || has_too_few_leads p node
+
+-- the same told by its rows alone: neither counts nor limits on changes of method are looked at
+abbrev pub is_hopeless_by_rows : ProblemParts → List ℕ → Bool
+is_hopeless_by_rows p node = has_too_many_rows p node || has_too_few_rows p node
 
 -- the gauge of a count in so many parts, and the shape and limits of a pattern, at a number
 abbrev pub mark_gauge : ℕ → ℕ → Count → Gauge

@@ -1,12 +1,12 @@
 //! Laws of kept callings and of meters. Each is the contract of a function that does nothing but call other laws.
 
-ghost use Rattle.std.specs.Prelude.{◌≡◌, ◌↔◌, ◌⊎◌, ℕ, true, List, [], Option, Some, map};
+ghost use Rattle.std.specs.Prelude.{◌≡◌, ◌↔◌, ◌⊎◌, ◌||◌, ℕ, true, List, [], Option, Some, map};
 ghost use Rattle.cr_model.specs.Problems.{ProblemParts};
 ghost use Rattle.cr_model.specs.Dead.{turn_free, is_too_many, is_too_few};
 ghost use Rattle.cr_model.specs.Nodes.{part_of};
 ghost use Rattle.cr_model.specs.Touches.{Wanted, Kept};
 ghost use Rattle.cr_model.specs.Turning.{IsLeastRotation};
-ghost use Rattle.cr_query.specs.Meters.{meter_from, is_hopeless_by_leads, node_after_all, moved_by_all};
+ghost use Rattle.cr_query.specs.Meters.{meter_from, is_hopeless_by_leads, is_hopeless_by_rows, node_after_all, moved_by_all};
 
 use cr_model::laws::{a_rotation_of_a_wanted_touch_is_wanted, a_touch_is_its_part_repeated};
 use cr_rotate::laws::repeated_words_are_least_where_the_word_is;
@@ -26,6 +26,12 @@ pub fn a_wanted_calling_is_kept_where_its_part_is_least()
 pub fn what_is_hopeless_by_leads_is_hopeless()
     ensures { (p : ProblemParts) (node : List ℕ) → is_hopeless_by_leads p node ≡ true
         → (is_too_many p node ≡ true) ⊎ (is_too_few p node ≡ true) }
+{}
+
+/// A node has too many or too few exactly where it is hopeless by its leads or by its rows.
+pub fn what_is_hopeless_is_so_by_leads_or_rows()
+    ensures { (p : ProblemParts) (node : List ℕ)
+        → (is_too_many p node || is_too_few p node) ≡ (is_hopeless_by_leads p node || is_hopeless_by_rows p node) }
 {}
 
 /// However a meter came to its node, by leads added and leads taken back, contracts see of it what they see of a

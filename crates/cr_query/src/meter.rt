@@ -10,7 +10,7 @@ ghost use Rattle.cr_model.specs.Sizes.{child};
 ghost use Rattle.cr_query.specs.Hits.{AreAlike};
 ghost use Rattle.cr_query.specs.Sets.{has_step};
 ghost use Rattle.cr_query.specs.Meeting.{MeetsCounts, MeetsMethodCounts};
-ghost use Rattle.cr_query.specs.Meters.{meter_from, parent, rows_fitting_after, has_too_many_leads, has_too_few_leads, has_too_few_rows, is_hopeless_by_leads};
+ghost use Rattle.cr_query.specs.Meters.{meter_from, parent, rows_fitting_after, has_too_many_leads, has_too_few_leads, has_too_few_rows, is_hopeless_by_leads, is_hopeless_by_rows};
 ghost use Rattle.cr_query.specs.declared.meter.Hopeless.TheVariants.{TooMany, TooFew};
 
 use crate::compiling::{fittings_of, kinds_of, step_count};
@@ -24,7 +24,7 @@ use crate::meeting::patterns_of;
 use crate::nodes::kind_at;
 use crate::numbers::{Numbers, numbers_of};
 use crate::rooms::{room_at, rooms_of};
-use crate::sets::with_step;
+use crate::sets::{first_steps, with_step};
 use crate::tallies::all_in;
 use cr_leads::LeadTable;
 use cr_model::Problem;
@@ -187,11 +187,12 @@ impl Meter {
             .is_hopeless_with(self.numbers, &self.kinds, kind, left)
     }
 
-    /// The steps, a bit for each, with one more of which the node is so by its leads alone.
+    /// The steps, a bit for each, with one more of which the node is so by its leads alone. No other bit is set.
     #[inline(always)]
     pub fn hopeless_steps(&self) -> u32
-        ensures { (step : ℕ) → step < length self.now.problem.leads
+        ensures each { (step : ℕ) → step < length self.now.problem.leads
             → has_step result step ≡ is_hopeless_by_leads self.now.problem (child self.now.node step) }
+        ensures others { (step : ℕ) → length self.now.problem.leads ≤ step → has_step result step ≡ false }
     {
         if self.asks_nothing_of_leads() {
             return 0;
@@ -206,18 +207,23 @@ impl Meter {
     #[inline(always)]
     fn hopeless_alike(&self, long: u8) -> u32
         requires { AreAlike self.now.problem long }
-        ensures { (step : ℕ) → step < length self.now.problem.leads
+        ensures each { (step : ℕ) → step < length self.now.problem.leads
             → has_step result step ≡ is_hopeless_by_leads self.now.problem (child self.now.node step) }
+        ensures others { (step : ℕ) → length self.now.problem.leads ≤ step → has_step result step ≡ false }
     {
         ringing_on();
         let left = room_at(&self.rooms, self.leads.length() + u64::from(long));
-        self.leads.out_steps(&self.hits, left)
+        first_steps(
+            self.leads.out_steps(&self.hits, left),
+            step_count(&self.problem),
+        )
     }
 
     // The same where each step is asked by itself.
     fn hopeless_one_by_one(&self) -> u32
-        ensures { (step : ℕ) → step < length self.now.problem.leads
+        ensures each { (step : ℕ) → step < length self.now.problem.leads
             → has_step result step ≡ is_hopeless_by_leads self.now.problem (child self.now.node step) }
+        ensures others { (step : ℕ) → length self.now.problem.leads ≤ step → has_step result step ≡ false }
     {
         let mut set = 0;
         for step in 0..step_count(&self.problem) {
@@ -229,7 +235,8 @@ impl Meter {
     /// Whether the node has too many or too few rows that fit a pattern.
     #[inline(always)]
     pub fn is_hopeless_by_rows(&self) -> bool
-        ensures { is_hopeless_by_leads self.now.problem self.now.node ≡ false
+        ensures is { result ≡ is_hopeless_by_rows self.now.problem self.now.node }
+        ensures whole { is_hopeless_by_leads self.now.problem self.now.node ≡ false
             → result ≡ (is_too_many self.now.problem self.now.node || is_too_few self.now.problem self.now.node) }
     {
         some_are_out(&self.patterns, self.leads.front(), self.rows_left())

@@ -1,6 +1,6 @@
 //! Sets of steps, a bit for each.
 
-ghost use Rattle.std.specs.Prelude.{◌≡◌, ◌<◌, ◌||◌, ℕ, true, false, cond};
+ghost use Rattle.std.specs.Prelude.{◌≡◌, ◌<◌, ◌≤◌, ◌||◌, ℕ, true, false, cond};
 ghost use Rattle.cr_query.specs.Sets.{has_step, put};
 
 /// The set with a step more, if it is to be in it.
@@ -9,6 +9,16 @@ pub fn with_step(set: u32, step: u8, is_in: bool) -> u32
     ensures { result ≡ put set step is_in }
 {
     set | (u32::from(is_in) << step)
+}
+
+/// Those steps of a set that are below a number.
+#[inline(always)]
+pub fn first_steps(set: u32, number: u8) -> u32
+    requires { number < 32 }
+    ensures each { (step : ℕ) → step < number → has_step result step ≡ has_step set step }
+    ensures others { (step : ℕ) → number ≤ step → has_step result step ≡ false }
+{
+    set & ((1 << number) - 1)
 }
 
 /// The steps of both sets.

@@ -42,7 +42,7 @@ impl Model for ReachTable {
 
 impl ReachTable {
     /// The table of a problem, given by its leads: as many whole levels as hold at most so many rows
-    /// together, none of them empty. Err where no memory is left, which there never is for 2^32 - 1 rows.
+    /// together, none of them empty. Err where no memory is left.
     pub fn new(alloc: Global, leads: &LeadTable, most_rows: u64) -> Result<ReachTable, NoMemory>
         requires some { 1 ≤ most_rows }
         requires few { most_rows < 2 ^ 32 }

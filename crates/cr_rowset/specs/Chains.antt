@@ -27,7 +27,7 @@ pub record IsStack (shift : ℕ) (buckets before keys : List ℕ) (len : ℕ) : 
   pub some_bits : shift < 64
   pub counted : length buckets ≡ bucket_count shift
   pub linked : length before ≡ length keys
-  pub few : length keys < 4294967295
+  pub few : length keys ≤ 4294967295
   pub within : len ≤ length keys
   pub held : (i : ℕ) → i < len → IsKey (get_or keys i 0)
   pub differ : (i j : ℕ) → i < j → j < len → get_or keys i 0 ≢ get_or keys j 0

@@ -1,6 +1,6 @@
 //! The rows of a stack, by their keys, in chains.
 
-ghost use Rattle.std.specs.Prelude.{◌≡◌, ◌≢◌, ℕ, ◌<◌, ◌≤◌, List, [], length, take, get_or, replicate, Contains, IfOk, IfSome, IsNone};
+ghost use Rattle.std.specs.Prelude.{◌≡◌, ◌≢◌, ℕ, ◌<◌, ◌≤◌, ◌^◌, List, [], length, take, get_or, replicate, Contains, IfOk, IfSome, IsErr, IsNone};
 ghost use Rattle.cr_rowset.specs.Stacks.{AllDiffer};
 ghost use Rattle.cr_rowset.specs.Chains.{bucket, bucket_count, IsChained, Seeks};
 ghost use Rattle.cr_rowset.specs.Pushing.{Pushes, StandsAt};
@@ -11,8 +11,8 @@ use cr_row::{NoMemory, Row};
 use std::alloc::Global;
 use std::marker::Model;
 
-// Rooms from this one on have no places that 32 bits number.
-const TOO_MANY: u64 = 0xFFFF_FFFF;
+// The greatest room: of each place in it 32 bits hold one more than its number.
+const MOST_ROWS: u64 = 0xFFFF_FFFF;
 
 // An odd number near 2^64 over the golden ratio: it spreads keys over the buckets.
 const SPREAD: u64 = 0x9E37_79B9_7F4A_7C15;
@@ -50,11 +50,12 @@ impl Model for RowStack {
 
 impl RowStack {
     /// The empty stack with this room. All memory that it will need is taken here. Err where no memory
-    /// is left, and for a room of 2^32 - 1 rows or more.
+    /// is left, and always for a room of 2^32 rows or more.
     pub fn with_room(alloc: Global, room: u64) -> Result<RowStack, NoMemory>
-        ensures { IfOk result (λ stack. stack ≡ record { rows = []; room = room }) }
+        ensures is { IfOk result (λ stack. stack ≡ record { rows = []; room = room }) }
+        ensures too_large { 2 ^ 32 ≤ room → IsErr result }
     {
-        if room >= TOO_MANY {
+        if room > MOST_ROWS {
             return Err(NoMemory);
         }
         let shift = shift_for(room);

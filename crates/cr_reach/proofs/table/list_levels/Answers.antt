@@ -8,7 +8,7 @@ use Rattle.cr_reach.proofs.table.list_levels.Goals as goal
 pub loop-start-init : goal.loop-start-init
 loop-start-init c =
     first_listed c.args.leads.now c.args.most_rows 0 0 c.in_ok-rows.rows c.push.new.self c.rounds.result c.push.result c.push-2.new.self.items
-    c.requires.some c.in_ok-rows.ensures c.push.ensures
+    c.requires.some c.in_ok-rows.ensures.is c.push.ensures
     (c.rounds.ensures.is ∙ ap rounds c.stage.ensures.is) (c.rounds.ensures.same_stage ∙ c.stage.ensures.is)
     (c.in_ok-push.ensures.items ∙ ap (λ (xs : List ℕ). xs ++ 0 ∷ []) c.new-levels.ensures.items) refl refl
 

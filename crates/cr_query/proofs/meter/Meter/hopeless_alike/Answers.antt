@@ -26,8 +26,8 @@ out_steps-requires-clause-letters c =
     as_many_sets (lettered m.problem node) (letter_steps m.problem) m.problem.query.method_counts (letters_now m.leads) m.hits.letters.items (whole m.problem node m.leads c.self.invariant.1).by_letter c.self.invariant.7.by_letter
     ∙ length-map m.leads.letters.items (at_front (length node))
 
-pub returns : goal.returns
-returns c step known =
+pub returns-clause-each : goal.returns-clause-each
+returns-clause-each c step known =
     let m = c.self.inside in
     let p = m.problem in
     let node = m.leads.steps.items in
@@ -40,10 +40,17 @@ returns c step known =
     let left : c.room_at-left.result ≡ room_left m.numbers (length_now m.leads + kind.length) =
     c.room_at-left.ensures.is m.numbers (c.deref.ensures.value ∙ c.self.invariant.0.table) ∙ ap₂ (λ long n. room_left m.numbers (long + n)) c.length.ensures (c.from.ensures ∙ sym (alike.long step inside)) in
     let changes = changes_now m.leads + change_between m.kinds.items node kind.method in
-    c.out_steps.ensures step kind.mark kind.letter low
+    let below : step < c.step_count.result = omega (arith, inside, c.step_count.ensures.is) in
+    c.first_steps.ensures.each step below
+    ∙ c.out_steps.ensures step kind.mark kind.letter low
     (of_marks p node step inside few (marks_now m.leads) m.hits.marks.items counted.by_mark c.self.invariant.7.by_mark)
     (of_letters p node step inside few (letters_now m.leads) m.hits.letters.items counted.by_letter c.self.invariant.7.by_letter)
     ∙ without_com m.numbers (marks_now m.leads) (letters_now m.leads) kind changes c.room_at-left.result (c.self.invariant.0.found.com ∙ alike.com)
     ∙ hopeless_told p node m.kinds.items m.leads step kind (change_between m.kinds.items node kind.method) c.ringing_on.ensures.lengths c.self.invariant.0.steps
     refl refl c.self.invariant.1.steps counted (parts_some p c.self.invariant.0.sound) m.numbers c.self.invariant.0.found c.room_at-left.result left
     ∙ ap (λ (meter : MeterParts). is_hopeless_by_leads meter.problem (child meter.node step)) c.self.view_is
+
+pub returns-clause-others : goal.returns-clause-others
+returns-clause-others c step beyond =
+    let same : length c.self.inside.problem.leads ≡ length c.args.self.now.problem.leads = ap (λ (meter : MeterParts). length meter.problem.leads) c.self.view_is in
+    c.first_steps.ensures.others step (omega (arith, beyond, same, c.step_count.ensures.is))
