@@ -1,5 +1,5 @@
 -- What a worker that asks at a desk is answered, and what it is to do.
-use Rattle.std.specs.Prelude.{◌≡◌, ◌≢◌, ℕ, Option, Some, None, Result, Ok, Err, ⊤}
+use Rattle.std.specs.Prelude.{◌≡◌, ◌≢◌, ◌⊎◌, ℕ, Option, Some, None, Result, Ok, Err, ⊤}
 use Rattle.cr_row.specs.declared.NoMemory.{NoMemory}
 use Rattle.cr_model.specs.Problems.{ProblemParts}
 use Rattle.cr_board.specs.Jobs.{TicketParts}
@@ -7,6 +7,7 @@ use Rattle.cr_board.specs.Boards.{BoardParts}
 use Rattle.cr_board.specs.Choices.{next_answer}
 use Rattle.cr_board.specs.Moves.{after_next}
 use Rattle.cr_board.specs.declared.taken.Taken.{Taken}
+use Rattle.cr_board.specs.declared.taken.Taken.TheVariants as taken
 use Rattle.cr_desk.specs.declared.duty.Duty.{Duty}
 use Rattle.cr_desk.specs.declared.duty.Duty.TheVariants as duty
 
@@ -22,3 +23,34 @@ abbrev pub IfExplore : Duty → (TicketParts → Type 0) → Type 0
 IfExplore (duty.Explore ticket) P = P ticket
 IfExplore duty.Resign P = ⊤
 IfExplore duty.Leave P = ⊤
+
+-- what holds where it is to leave
+abbrev pub IfLeave : Duty → Type 0 → Type 0
+IfLeave (duty.Explore ticket) P = ⊤
+IfLeave duty.Resign P = ⊤
+IfLeave duty.Leave P = P
+
+-- an answer after which a worker gets no job any more: it is a stranger, the budget is spent, or no job is left
+abbrev pub EndsWork : Taken → Type 0
+EndsWork taken.Stranger = ⊤
+EndsWork (taken.Holding number) = ⊥
+EndsWork taken.Spent = ⊤
+EndsWork (taken.Job ticket) = ⊥
+EndsWork (taken.Wait worker) = ⊥
+EndsWork taken.Empty = ⊤
+
+-- there is nothing to do at this board for a worker that explores this problem: the board is of another one, or it
+-- answers the worker so
+abbrev pub HasNoWork : BoardParts → ProblemParts → ℕ → Type 0
+HasNoWork b p worker = (b.opening.problem ≢ p) ⊎ EndsWork (next_answer b worker)
+
+-- what holds where a worker is answered that it has nothing to do
+abbrev pub IfNoWork : Result (Option Taken) NoMemory → Type 0 → Type 0
+IfNoWork (Err e) P = ⊤
+IfNoWork (Ok None) P = P
+IfNoWork (Ok (Some taken.Stranger)) P = P
+IfNoWork (Ok (Some (taken.Holding number))) P = ⊤
+IfNoWork (Ok (Some taken.Spent)) P = P
+IfNoWork (Ok (Some (taken.Job ticket))) P = ⊤
+IfNoWork (Ok (Some (taken.Wait worker))) P = ⊤
+IfNoWork (Ok (Some taken.Empty)) P = P

@@ -2,9 +2,11 @@
 
 ghost use Rattle.std.specs.Prelude.{◌≡◌, ◌≤◌, [], length, map, sum_by, vec_len, All, IfOk, IfSome};
 ghost use Rattle.std.specs.List.{range_with_len};
+ghost use Rattle.std.specs.Sync.Mutex.{mutex_guard_value};
+ghost use Rattle.cr_model.specs.Problems.{ProblemParts};
 ghost use Rattle.cr_node.specs.Work.{IsJob};
 ghost use Rattle.cr_board.specs.Partitions.{IsKept};
-ghost use Rattle.cr_desk.specs.Asks.{IfExplore};
+ghost use Rattle.cr_desk.specs.Asks.{IfExplore, IfLeave, HasNoWork};
 
 use crate::duty::Duty;
 use crate::locked::Locked;
@@ -85,17 +87,7 @@ impl<L: Ledger> Desk<L> {
         ensures parts { seat.new.share.parts ≡ seat.old.share.parts }
         ensures amount { seat.old.share.amount ≤ seat.new.share.amount }
     {
-        for _ in rt.forever() {
-            let goes_on = match self.ask(rt, alloc, explorer, seat) {
-                Duty::Explore(ticket) => self.explore(rt, alloc, explorer, seat, &ticket),
-                Duty::Resign => false,
-                Duty::Leave => break,
-            };
-            if !goes_on {
-                self.lock(rt).resign(seat.worker, &mut seat.share);
-                break;
-            }
-        }
+        drop(self.worked(rt, alloc, explorer, seat));
         // Whoever waits, waits for one that holds a job. That one asks again, until it leaves: it may have held the last
         // job, or leave one behind.
         self.changed.notify_all();
@@ -136,15 +128,45 @@ impl<L: Ledger> Desk<L> {
         self.locked.lock(rt)
     }
 
-    // Asks for a worker's next job until the answer is not to wait.
-    fn ask<R: Wait, E: Explorer>(
-        &self,
+    // Works at a seat until there is nothing to do for it any more, and gives the lock under which that is so.
+    fn worked<'a, R: Wait, E: Explorer>(
+        &'a self,
         rt: &R,
         alloc: Global,
         explorer: &E,
         seat: &mut Seat<L>,
-    ) -> Duty
-        ensures job { IfExplore result (λ ticket. IsJob (E.explores explorer.now) ticket.nodes) }
+    ) -> MutexGuard<'a, Locked<L>>
+        ensures none { HasNoWork (mutex_guard_value result).board (E.explores explorer.now) seat.old.worker }
+        ensures worker { seat.new.worker ≡ seat.old.worker }
+        ensures parts { seat.new.share.parts ≡ seat.old.share.parts }
+        ensures amount { seat.old.share.amount ≤ seat.new.share.amount }
+    {
+        for _ in rt.forever() {
+            let (locked, duty) = self.ask(rt, alloc, explorer, seat);
+            match duty {
+                Duty::Explore(ticket) => {
+                    drop(locked);
+                    if !self.explore(rt, alloc, explorer, seat, &ticket) {
+                        return resigned(self.lock(rt), seat);
+                    }
+                }
+                Duty::Resign => return resigned(locked, seat),
+                Duty::Leave => return locked,
+            }
+        }
+        unreachable!()
+    }
+
+    // Asks for a worker's next job until the answer is not to wait. The lock is the one under which it was given.
+    fn ask<'a, R: Wait, E: Explorer>(
+        &'a self,
+        rt: &R,
+        alloc: Global,
+        explorer: &E,
+        seat: &mut Seat<L>,
+    ) -> (MutexGuard<'a, Locked<L>>, Duty)
+        ensures job { IfExplore result.1 (λ ticket. IsJob (E.explores explorer.now) ticket.nodes) }
+        ensures none { IfLeave result.1 (HasNoWork (mutex_guard_value result.0).board (E.explores explorer.now) seat.old.worker) }
         ensures worker { seat.new.worker ≡ seat.old.worker }
         ensures parts { seat.new.share.parts ≡ seat.old.share.parts }
         ensures amount { seat.old.share.amount ≤ seat.new.share.amount }
@@ -152,11 +174,11 @@ impl<L: Ledger> Desk<L> {
         let mut locked = self.lock(rt);
         for _ in rt.forever() {
             match locked.ask(alloc, explorer.problem(), seat.worker, &mut seat.share) {
-                Ok(Some(Taken::Job(ticket))) => return Duty::Explore(ticket),
+                Ok(Some(Taken::Job(ticket))) => return (locked, Duty::Explore(ticket)),
                 Ok(Some(Taken::Wait(_))) => locked = self.changed.wait(rt, locked),
-                Ok(Some(Taken::Holding(_))) | Err(NoMemory) => return Duty::Resign,
+                Ok(Some(Taken::Holding(_))) | Err(NoMemory) => return (locked, Duty::Resign),
                 Ok(None | Some(Taken::Stranger | Taken::Spent | Taken::Empty)) => {
-                    return Duty::Leave;
+                    return (locked, Duty::Leave);
                 }
             }
         }
@@ -191,4 +213,19 @@ impl<L: Ledger> Desk<L> {
         }
         taken
     }
+}
+
+// The lock after a seat's worker resigned.
+fn resigned<'a, L: Ledger>(
+    locked: MutexGuard<'a, Locked<L>>,
+    seat: &mut Seat<L>,
+) -> MutexGuard<'a, Locked<L>>
+    ensures none { (p : ProblemParts) → HasNoWork (mutex_guard_value result).board p seat.old.worker }
+    ensures worker { seat.new.worker ≡ seat.old.worker }
+    ensures parts { seat.new.share.parts ≡ seat.old.share.parts }
+    ensures amount { seat.old.share.amount ≤ seat.new.share.amount }
+{
+    let mut locked = locked;
+    locked.resign(seat.worker, &mut seat.share);
+    locked
 }

@@ -1,10 +1,11 @@
 //! What the lock keeps.
 
-ghost use Rattle.std.specs.Prelude.{◌≡◌, ◌+◌, ◌<◌, cond, nat_lt, length, IfOk, IfSome, OnOk, OnErr};
+ghost use Rattle.std.specs.Prelude.{◌≡◌, ◌+◌, ◌<◌, ◌≤◌, cond, nat_lt, length, IfOk, IfSome, OnOk, OnErr};
 ghost use Rattle.cr_node.specs.Work.{IsJob};
-ghost use Rattle.cr_board.specs.Choices.{next_answer, IfJob};
+ghost use Rattle.cr_board.specs.Choices.{next_answer, IfJob, UnlessTaken};
 ghost use Rattle.cr_board.specs.Moves.{HandsIn, after_next, after_resigning};
-ghost use Rattle.cr_desk.specs.Asks.{Asks};
+ghost use Rattle.cr_board.specs.declared.taken.Taken.TheVariants.{Stranger};
+ghost use Rattle.cr_desk.specs.Asks.{Asks, IfNoWork, HasNoWork};
 
 use cr_board::laws::{a_ticket_has_a_job, journals_grow_by_their_entries};
 use cr_board::{Board, Handed, Taken};
@@ -36,8 +37,10 @@ impl<L: Ledger> Locked<L> {
     ) -> Result<Option<Taken>, NoMemory>
         requires { 0 < mine.old.parts }
         ensures asks { Asks self.old.board problem.now worker result self.new.board }
+        ensures none { IfNoWork result (HasNoWork self.new.board problem.now worker) }
         ensures job { IfOk result (λ answer. IfSome answer (λ taken. IfJob taken (λ ticket. IsJob problem.now ticket.nodes))) }
         ensures parts { mine.new.parts ≡ mine.old.parts }
+        ensures amount { mine.old.amount ≤ mine.new.amount }
         ensures counted { mine.new.amount + length self.old.board.journal ≡ mine.old.amount + length self.new.board.journal }
     {
         if !self.board.opening().problem().same(problem) {
@@ -56,9 +59,11 @@ impl<L: Ledger> Locked<L> {
         requires { 0 < mine.old.parts }
         ensures answer { IfOk result (λ taken. taken ≡ next_answer self.old.board worker) }
         ensures board { OnOk result (self.new.board ≡ after_next self.old.board worker) }
+        ensures unchanged { IfOk result (λ taken. UnlessTaken taken (self.new.board ≡ self.old.board)) }
         ensures err { OnErr result (self.new.board ≡ self.old.board) }
         ensures job { IfOk result (λ taken. IfJob taken (λ ticket. IsJob self.old.board.opening.problem ticket.nodes)) }
         ensures parts { mine.new.parts ≡ mine.old.parts }
+        ensures amount { mine.old.amount ≤ mine.new.amount }
         ensures counted { mine.new.amount + length self.old.board.journal ≡ mine.old.amount + length self.new.board.journal }
     {
         a_ticket_has_a_job();
@@ -76,6 +81,7 @@ impl<L: Ledger> Locked<L> {
         requires { 0 < mine.old.parts }
         ensures handed { HandsIn self.old.board worker number done result self.new.board }
         ensures parts { mine.new.parts ≡ mine.old.parts }
+        ensures amount { mine.old.amount ≤ mine.new.amount }
         ensures counted { mine.new.amount + length self.old.board.journal ≡ mine.old.amount + length self.new.board.journal }
     {
         journals_grow_by_their_entries();
@@ -86,14 +92,18 @@ impl<L: Ledger> Locked<L> {
         handed
     }
 
-    /// A worker resigns, if there is one of this number.
+    /// A worker resigns, if there is one of this number. It is a stranger to the board then.
+    #[tactic(auto, using(crate::proofs::Strangers::stranger_after))]
     pub fn resign(&mut self, worker: u32, mine: &mut Share<L>)
         requires { 0 < mine.old.parts }
         ensures board { self.new.board ≡ cond (nat_lt worker self.old.board.opening.workers) (after_resigning self.old.board worker) self.old.board }
+        ensures stranger { next_answer self.new.board worker ≡ Stranger }
         ensures parts { mine.new.parts ≡ mine.old.parts }
+        ensures amount { mine.old.amount ≤ mine.new.amount }
         ensures counted { mine.new.amount + length self.old.board.journal ≡ mine.old.amount + length self.new.board.journal }
     {
         journals_grow_by_their_entries();
+        let _ = self.board.journal();
         if worker >= self.board.opening().workers() {
             return;
         }

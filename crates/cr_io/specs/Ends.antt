@@ -21,6 +21,13 @@ TakesWithin took old new limit (Err end.TooLong) = TookMore took old new limit
 TakesWithin took old new limit (Err end.ReadFault) = TookAtMost took old new limit
 TakesWithin took old new limit (Err end.NoMemory) = TookAtMost took old new limit
 
+-- the count of faults is as it was, but where a read failed
+abbrev pub KeepsFaults : ℕ → ℕ → Result (Vec ℕ Global) ReadEnd → Type 0
+KeepsFaults before now (Ok bytes) = now ≡ before
+KeepsFaults before now (Err end.TooLong) = now ≡ before
+KeepsFaults before now (Err end.NoMemory) = now ≡ before
+KeepsFaults before now (Err end.ReadFault) = ⊤
+
 -- of a source that tells its bytes, Ok gives all that were left,
 -- and TooLong comes only where more than the limit were left
 abbrev pub ReadsAll : Option (List ℕ) → Option (List ℕ) → ℕ → Result (Vec ℕ Global) ReadEnd → Type 0

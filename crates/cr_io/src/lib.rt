@@ -45,7 +45,7 @@ pub trait Source {
 
     /// Puts the next bytes into the front of `buf` and gives their number. It gives 0 for a buffer
     /// that is not empty only at the end. `Failed` comes only where the count of faults rose, and
-    /// then nothing was taken.
+    /// then nothing was taken; with a number the count is as it was.
     fn read(&mut self, buf: &mut [u8]) -> Result<usize, Failed>
         ensures bound { ReadsAtMost result buf.new }
         ensures bytes { ReadTakes took self.old self.new result buf.new }
@@ -79,7 +79,7 @@ pub trait Sink {
 
     /// Appends the first bytes of `piece` and gives their number, which is at least 1 unless the
     /// piece is empty. `Failed` comes only where the count of faults rose, and then nothing was
-    /// appended.
+    /// appended; with a number the count is as it was.
     fn write(&mut self, piece: &[u8]) -> Result<usize, Failed>
         ensures bound { TakesSome result piece.now }
         ensures bytes { WriteGrows grew self.old self.new result piece.now }

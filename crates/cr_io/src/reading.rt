@@ -5,7 +5,7 @@ ghost use Rattle.std.specs.Io.{ReadsAtMost};
 ghost use Rattle.std.specs.Io.KnownBytes.{IsAtEnd};
 ghost use Rattle.cr_io.specs.Causes.{Rose, HasCause};
 ghost use Rattle.cr_io.specs.Taken.{ReadTakes};
-ghost use Rattle.cr_io.specs.Ends.{TakesWithin, ReadsAll};
+ghost use Rattle.cr_io.specs.Ends.{TakesWithin, ReadsAll, KeepsFaults};
 ghost use Rattle.cr_io.specs.Turns.{TakesInTurns};
 
 use crate::{Failed, Source, Steps};
@@ -40,12 +40,14 @@ impl From<AllocError> for ReadEnd {
 }
 
 /// All bytes of a source, if they are at most `limit`. `ReadFault` comes only where the source's
-/// count of faults rose in this call, `TooLong` exactly where more than `limit` bytes were taken.
+/// count of faults rose in this call, `TooLong` exactly where more than `limit` bytes were taken. On
+/// every other end than `ReadFault` the count is as it was.
 pub fn read_all<S: Source>(alloc: Global, source: &mut S, limit: u64) -> Result<Vec<u8>, ReadEnd>
     ensures taken { TakesWithin S.took source.old source.new limit result }
     ensures told { ReadsAll (S.left source.old) (S.left source.new) limit result }
     ensures fault { result ≡ Err ReadEnd.ReadFault → Rose (S.faults source.old) (S.faults source.new) }
     ensures later { S.faults source.old ≤ S.faults source.new }
+    ensures same { KeepsFaults (S.faults source.old) (S.faults source.new) result }
 {
     read_all_from::<S, Brand>(alloc, source, limit, Blank::new(1))
 }
@@ -64,6 +66,7 @@ fn read_all_from<S: Source, L: Ledger>(
     ensures told { ReadsAll (S.left source.old) (S.left source.new) limit result }
     ensures fault { result ≡ Err ReadEnd.ReadFault → Rose (S.faults source.old) (S.faults source.new) }
     ensures later { S.faults source.old ≤ S.faults source.new }
+    ensures same { KeepsFaults (S.faults source.old) (S.faults source.new) result }
 {
     let mut steps = Steps::<L>::new(blank);
     read_all_counted(alloc, source, limit, &mut steps)
@@ -80,6 +83,7 @@ pub fn read_all_counted<S: Source, L: Ledger>(
     ensures told { ReadsAll (S.left source.old) (S.left source.new) limit result }
     ensures fault { result ≡ Err ReadEnd.ReadFault → Rose (S.faults source.old) (S.faults source.new) }
     ensures later { S.faults source.old ≤ S.faults source.new }
+    ensures same { KeepsFaults (S.faults source.old) (S.faults source.new) result }
     ensures some { steps.old < steps.new }
     ensures turns { steps.new ≤ steps.old + limit + 1 }
     ensures each { TakesInTurns S.took source.old source.new (steps.new - steps.old) result }

@@ -1,10 +1,9 @@
 //! What no clause says: worked cases of each call, with ample memory.
 
-ghost use Rattle.std.specs.Prelude.{◌≡◌, IfOk};
+mod streams;
 
 use super::*;
 use std::alloc::{AllocError, Global};
-use std::io::{self, Read, Write};
 use std::test::Fail;
 
 // The bytes 0, 1, .. up to 250, and again from 0, so many of them.
@@ -242,100 +241,4 @@ fn no_piece_is_lost(rt: HostRuntime) -> Result<(), Fail> {
         holds(name, taken == Ok(length) && sink.bytes() == Some(piece))?;
     }
     Ok(())
-}
-
-// A reader of sevens, and a writer, that errs at its first call.
-#[derive(Drop)]
-struct ErrsOnce {
-    has_erred: bool,
-}
-
-impl ErrsOnce {
-    fn next(&mut self, count: usize) -> io::Result<usize>
-        ensures { IfOk result (λ n. n ≡ count) }
-    {
-        if self.has_erred {
-            return Ok(count);
-        }
-        self.has_erred = true;
-        Err(io::Error::from(io::ErrorKind::Interrupted))
-    }
-}
-
-impl Read for ErrsOnce {
-    fn read(&mut self, buf: &mut [u8]) -> io::Result<usize> {
-        let count = self.next(buf.len())?;
-        buf.fill(7);
-        Ok(count)
-    }
-}
-
-impl Write for ErrsOnce {
-    fn write(&mut self, piece: &[u8]) -> io::Result<usize> {
-        self.next(piece.len())
-    }
-
-    fn flush(&mut self) -> io::Result<()> {
-        Ok(())
-    }
-}
-
-#[test]
-fn a_reader_that_errs_once(_: HostRuntime) -> Result<(), Fail> {
-    let mut buf = [9; 5_000];
-    let mut source = StdSource::new(ErrsOnce { has_erred: false });
-    let failed = source.read(&mut buf);
-    holds(
-        "its error is one fault",
-        failed == Err(Failed) && source.fault_count() == 1,
-    )?;
-    holds("nothing was given", source.given() == 0)?;
-    let long = source.read(&mut buf);
-    holds(
-        "it gives 5,000 bytes",
-        long == Ok(5_000) && source.given() == 5_000,
-    )?;
-    holds(
-        "they are no fault",
-        source.fault_count() == 1 && buf[0] == 7 && buf[4_999] == 7,
-    )
-}
-
-#[test]
-fn a_writer_that_errs_once(_: HostRuntime) -> Result<(), Fail> {
-    let piece = [7; 5_000];
-    let mut sink = StdSink::new(ErrsOnce { has_erred: false });
-    let failed = sink.write(&piece);
-    holds(
-        "its error is one fault",
-        failed == Err(Failed) && sink.fault_count() == 1,
-    )?;
-    holds("nothing was taken", sink.taken() == 0)?;
-    let long = sink.write(&piece);
-    holds(
-        "it takes 5,000 bytes",
-        long == Ok(5_000) && sink.taken() == 5_000,
-    )?;
-    holds("they are no fault", sink.fault_count() == 1)
-}
-
-#[test]
-fn a_writer_that_is_full(_: HostRuntime) -> Result<(), Fail> {
-    let mut room = [0; 2];
-    let mut sink = StdSink::new(room.as_mut_slice());
-    let end = write_whole(&mut sink, &[7, 8, 9]);
-    holds(
-        "it takes two bytes",
-        end == Err(WriteFault) && sink.taken() == 2,
-    )?;
-    holds(
-        "that it takes no more is one fault",
-        sink.fault_count() == 1,
-    )?;
-    let none = sink.write(&[]);
-    holds(
-        "an empty piece is no fault",
-        none == Ok(0) && sink.fault_count() == 1,
-    )?;
-    holds("the two bytes are there", room == [7, 8])
 }

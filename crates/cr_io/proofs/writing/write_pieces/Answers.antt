@@ -7,7 +7,7 @@ pub loop-piece-preserved : goal.loop-piece-preserved
 loop-piece-preserved g c = (
   piece_joined g.met.K.Sink.chains _ _ _ c.args.pieces.now c.loop-piece.piece-index c.piece-item.result c.loop-piece-test.true c.piece-item.is
       c.loop-piece.invariant.0 (rw c.deref.ensures.value at c.in_ok-write_whole.ensures.whole),
-  omega (arith, c.in_ok-write_whole.ensures.later),
+  omega (arith, c.in_ok-write_whole.ensures.same),
 )
 
 pub returns-in_err-write_whole-clause-front : goal.returns-in_err-write_whole-clause-front
