@@ -1,6 +1,6 @@
 -- What a problem file on literal bytes is, from tests that compute.
-use Rattle.std.proofs.Common.{◌≡◌, ◌∙◌, ℕ, zero, suc, ◌<◌, ◌≤◌, ◌⊎◌, inl, inr, Bool, true, Option, Some, None, List, [], ◌∷◌, ◌++◌, length, IsUtf8, Ok, Err, refl, sym, ap, subst, arith, below_more}
-use Rattle.std.specs.Prelude.{option_map, option_and_then, Result}
+use Rattle.std.proofs.Common.{◌≡◌, ◌∙◌, ℕ, zero, suc, ◌<◌, ◌≤◌, inr, true, Option, Some, None, List, [], ◌∷◌, ◌++◌, length, IsUtf8, Ok, Err, refl, sym, ap, subst, arith, below_more}
+use Rattle.std.specs.Prelude.{option_map, option_and_then}
 use Rattle.std.specs.Str.{is_utf8}
 use Rattle.std.proofs.lemmas.Str.{IsUtf8-from_is_utf8}
 use Rattle.std.proofs.lemmas.Option.{same_Some}

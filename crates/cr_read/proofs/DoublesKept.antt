@@ -1,13 +1,12 @@
 -- What is asked of Plain Bob Doubles by example is a sound problem.
-use Rattle.std.proofs.Common.{◌≡◌, ℕ, ◌<◌, ◌≤◌, ℤ, pos, ◌≤ℤ◌, nat_abs, Option, None, Some, IfSome, unwrap_or, List, [], ◌∷◌, length, refl, arith}
-use Rattle.std.specs.Prelude.{option_map}
+use Rattle.std.proofs.Common.{ℕ, ◌<◌, pos, Option, None, List, [], length, arith}
 use Rattle.std.proofs.lemmas.Int.{ints}
 use Rattle.cr_model.specs.declared.query.Com.{Com}
 use Rattle.cr_model.specs.declared.query.Count.{Count}
 use Rattle.cr_model.specs.declared.query.MethodCount.{MethodCount}
 use Rattle.cr_model.specs.Queries.{extent}
-use Rattle.cr_model.specs.Problems.{PatternParts, QueryParts}
-use Rattle.cr_model.specs.Examples.{asks, doubles}
+use Rattle.cr_model.specs.Problems.{PatternParts}
+use Rattle.cr_model.specs.Examples.{doubles}
 use Rattle.cr_model.specs.Right.{CountIsRight, count_at, MethodCountIsRight, method_count_at, PatternIsRight, pattern_at, ComIsRight}
 use Rattle.cr_model.specs.Checks.{AllHold}
 use Rattle.cr_read.specs.Examples.{doubles_asked, plainly}

@@ -1,5 +1,5 @@
 -- The files of Plain Bob Doubles by example.
-use Rattle.std.proofs.Common.{◌≡◌, ℕ, ◌<◌, ◌≤◌, ℤ, pos, ◌≤ℤ◌, nat_abs, Option, None, Some, IfSome, unwrap_or, Ok, List, [], ◌∷◌, length, codes, refl, sym, ap, subst, ◌∙◌, arith}
+use Rattle.std.proofs.Common.{◌≡◌, ℕ, ◌≤◌, ℤ, pos, ◌≤ℤ◌, nat_abs, Option, Some, IfSome, unwrap_or, Ok, List, [], ◌∷◌, length, codes, refl, sym, subst, arith}
 use Rattle.std.specs.Prelude.{option_map, map}
 use Rattle.cr_row.specs.Rows.{Places}
 use Rattle.cr_model.specs.Callings.{called}
@@ -8,7 +8,7 @@ use Rattle.cr_model.specs.Files.{FileParts, CallText}
 use Rattle.cr_model.specs.ProblemFiles.{Tunes, mark_at, MarkIsRight, OverIsRight, Suits, FitsAll, IsApart, CallsSpell, MarksPass, CallsPass}
 use Rattle.cr_notation.specs.Reading.{read_all, read_from, byte_step, step, place_step, cross_step, dot_step, comma_step, end_step, closed}
 use Rattle.cr_read.proofs.ByExample.{each, spelled}
-use Rattle.cr_read.proofs.OneMethod.{Asked, file_of_one, tunes_of_one, calls_spell, marks_pass}
+use Rattle.cr_read.proofs.OneMethod.{Asked, file_of_one, tunes_of_one, calls_spell}
 
 abbrev pub notation : List ℕ
 notation = codes "5.1.5.1.5,125"

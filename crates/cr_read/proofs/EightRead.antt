@@ -1,12 +1,12 @@
 -- A file of eight methods and three calls by example, which has more steps than a problem may have.
-use Rattle.std.proofs.Common.{◌≡◌, ℕ, ◌+◌, ◌<◌, ◌≤◌, min, pos, None, Ok, unwrap_or, List, [], ◌∷◌, length, get_or, replicate, codes, refl, arith}
+use Rattle.std.proofs.Common.{◌≡◌, ℕ, ◌+◌, ◌<◌, min, pos, None, Ok, unwrap_or, List, [], ◌∷◌, length, get_or, replicate, codes, refl, arith}
 use Rattle.std.specs.Prelude.{map}
 use Rattle.cr_row.specs.Rows.{Places}
 use Rattle.cr_model.specs.Examples.{on_five}
 use Rattle.cr_model.specs.Right.{LetterIsRight}
 use Rattle.cr_model.specs.Notation.{Spells}
-use Rattle.cr_model.specs.Files.{FileParts, CallText}
-use Rattle.cr_model.specs.ProblemFiles.{Tunes, letters_of, mark_at, over_at, tune_at, MarkIsRight, OverIsRight, Fits, FitsAll, AreApart, IsApart, LettersPass, CallsSpell, MarksPass, CallsPass}
+use Rattle.cr_model.specs.Files.{FileParts}
+use Rattle.cr_model.specs.ProblemFiles.{Tunes, letters_of, mark_at, over_at, tune_at, MarkIsRight, OverIsRight, Fits, CallsSpell, CallsPass}
 use Rattle.cr_notation.specs.Reading.{read_all, read_from, byte_step, step, place_step, cross_step, dot_step, comma_step, end_step, closed}
 use Rattle.cr_read.proofs.ByExample.{each, spelled}
 use Rattle.cr_read.proofs.CallFacts.{called_length}

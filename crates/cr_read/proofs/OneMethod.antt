@@ -7,7 +7,7 @@ use Rattle.cr_model.specs.declared.query.Com.{Com}
 use Rattle.cr_model.specs.Notation.{Spells}
 use Rattle.cr_model.specs.Right.{LetterIsRight}
 use Rattle.cr_model.specs.Files.{FileParts, Limited, CallText}
-use Rattle.cr_model.specs.ProblemFiles.{Tunes, letters_of, mark_at, MarkIsRight, OverIsRight, LettersPass, MethodsSpell, CallsSpell, OversPass, MarksPass}
+use Rattle.cr_model.specs.ProblemFiles.{Tunes, letters_of, mark_at, MarkIsRight, OverIsRight, LettersPass, MethodsSpell, CallsSpell, MarksPass}
 use Rattle.cr_notation.specs.Reading.{read_all}
 use Rattle.cr_read.proofs.ByExample.{each, spelled}
 

@@ -1,12 +1,12 @@
 -- A file of two methods and two calls by example.
-use Rattle.std.proofs.Common.{◌≡◌, ℕ, ◌<◌, ◌≤◌, ℤ, pos, Bool, true, false, Option, None, Some, Ok, List, [], ◌∷◌, length, codes, refl, arith}
+use Rattle.std.proofs.Common.{◌≡◌, ℕ, ◌<◌, pos, true, false, Option, None, Some, Ok, List, [], ◌∷◌, codes, refl, arith}
 use Rattle.std.specs.Prelude.{map}
 use Rattle.std.proofs.lemmas.Bool.{false≢true}
 use Rattle.cr_row.specs.Rows.{Places}
 use Rattle.cr_model.specs.Examples.{on_four}
 use Rattle.cr_model.specs.Right.{LetterIsRight}
-use Rattle.cr_model.specs.Files.{FileParts, MethodText, CallText}
-use Rattle.cr_model.specs.ProblemFiles.{Tunes, letters_of, mark_at, MarkIsRight, OverIsRight, Suits, FitsAll, AreApart, IsApart, LettersPass, MethodsSpell, CallsSpell, MarksPass, CallsPass}
+use Rattle.cr_model.specs.Files.{FileParts}
+use Rattle.cr_model.specs.ProblemFiles.{Tunes, letters_of, mark_at, MarkIsRight, OverIsRight, Suits, FitsAll, AreApart, IsApart, LettersPass, CallsSpell, MarksPass, CallsPass}
 use Rattle.cr_notation.specs.Reading.{read_all, read_from, byte_step, step, place_step, cross_step, dot_step, comma_step, end_step, closed}
 use Rattle.cr_read.proofs.ByExample.{each, spelled}
 

@@ -1,6 +1,5 @@
 -- Problem files of a few lines, and what they say.
-use Rattle.std.specs.Prelude.{ℕ, List, [], ◌∷◌, ◌++◌, map, flat_map, pos, None, codes}
-use Rattle.cr_row.specs.Rows.{Places}
+use Rattle.std.specs.Prelude.{ℕ, List, [], ◌∷◌, ◌++◌, map, flat_map, codes}
 use Rattle.cr_model.specs.Problems.{LeadParts, QueryParts, ProblemParts}
 use Rattle.cr_model.specs.Examples.{asks, doubles, on_four}
 

@@ -1,7 +1,7 @@
 //! Problem files by example: which problem some bytes are, or which fault they have.
 
 ghost use Rattle.std.specs.Prelude.{[], ◌∷◌, ◌++◌, Some, pos, negsuc, codes};
-ghost use Rattle.cr_model.specs.Examples.{asks, doubles, marked, lettered, com_from};
+ghost use Rattle.cr_model.specs.Examples.{doubles, marked, lettered, com_from};
 ghost use Rattle.cr_model.specs.ProblemFiles.{ProblemFile, FirstProblemFault};
 ghost use Rattle.cr_model.specs.declared.fault.CountAt.TheVariants as counted;
 ghost use Rattle.cr_model.specs.declared.notation.NotationFault.TheVariants as notation;

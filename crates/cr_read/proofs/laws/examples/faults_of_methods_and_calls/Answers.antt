@@ -1,4 +1,4 @@
-use Rattle.std.proofs.Common.{◌≡◌, ℕ, ◌<◌, ◌≤◌, refl, arith, ℤ, pos, negsuc, ◌≤ℤ◌, Option, Some, None, Ok, Err, List, [], ◌∷◌, ◌++◌, map, codes}
+use Rattle.std.proofs.Common.{◌≡◌, ℕ, ◌<◌, ◌≤◌, refl, arith, ℤ, pos, negsuc, ◌≤ℤ◌, Some, None, Ok, Err, List, [], ◌∷◌, ◌++◌, map, codes}
 use Rattle.std.specs.Str.{is_utf8, chars}
 use Rattle.std.proofs.lemmas.Int.{ints}
 use Rattle.toml.proofs.OnLiterals.{toml_on_literals}
@@ -10,7 +10,7 @@ use Rattle.cr_model.specs.Examples.{on_five}
 use Rattle.cr_model.specs.Keys.{key_faults}
 use Rattle.cr_model.specs.Files.{FileParts, MethodText, CallText}
 use Rattle.cr_model.specs.Right.{LetterIsRight}
-use Rattle.cr_model.specs.ProblemFiles.{letters_of, mark_at, OverIsRight, MarkIsRight, FitsAll, Suits, IsApart, AreApart, IsFileFault, LengthsPass, MarksPass}
+use Rattle.cr_model.specs.ProblemFiles.{mark_at, OverIsRight, MarkIsRight, FitsAll, Suits, IsApart, IsFileFault}
 use Rattle.cr_notation.specs.Reading.{read_all, read_from, byte_step, step, place_step, cross_step, dot_step, comma_step, end_step, closed}
 use Rattle.cr_read.specs.Examples.{stage_line, method_lines, call_lines, query_lines, in_pieces, doubles_with}
 use Rattle.cr_read.proofs.ByExample.{each, is_file, spelled, unspelled}

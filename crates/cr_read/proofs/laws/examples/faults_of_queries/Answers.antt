@@ -1,4 +1,4 @@
-use Rattle.std.proofs.Common.{◌≡◌, ◌≢◌, ℕ, ◌<◌, ◌≤◌, refl, arith, inl, inr, ℤ, pos, Option, Some, None, Ok, List, [], ◌∷◌, map, get_or, codes}
+use Rattle.std.proofs.Common.{◌≡◌, ◌≢◌, ℕ, ◌≤◌, refl, arith, inl, inr, pos, Some, None, Ok, List, [], ◌∷◌, get_or, codes}
 use Rattle.std.specs.Str.{is_utf8, chars}
 use Rattle.std.proofs.lemmas.Int.{ints}
 use Rattle.toml.proofs.OnLiterals.{toml_on_literals}
@@ -19,7 +19,7 @@ use Rattle.cr_model.specs.Right.{LimitsAreRight, CountIsRight, MethodCountIsRigh
 use Rattle.cr_model.specs.Files.{FileParts, Limited, CallText}
 use Rattle.cr_model.specs.ProblemFiles.{Tunes, mark_at, parts_of, MakesWrong, OverIsRight, MarkIsRight, FitsAll, Suits, IsApart, CallsPass}
 use Rattle.cr_notation.specs.Reading.{read_all, read_from, byte_step, step, place_step, cross_step, dot_step, comma_step, end_step, closed}
-use Rattle.cr_read.specs.Examples.{stage_line, method_lines, call_lines, query_lines, in_pieces, doubles_with, eight_methods}
+use Rattle.cr_read.specs.Examples.{stage_line, method_lines, call_lines, in_pieces, doubles_with, eight_methods}
 use Rattle.cr_read.proofs.ByExample.{each, is_file, spelled, later_checks, makes_wrong}
 use Rattle.cr_read.proofs.OneMethod.{Asked, file_of_one, tunes_of_one, marks_pass}
 use Rattle.cr_read.proofs.DoublesRead as doubles

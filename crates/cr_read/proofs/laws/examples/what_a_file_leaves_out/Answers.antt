@@ -1,14 +1,10 @@
-use Rattle.std.proofs.Common.{◌≡◌, ℕ, ◌<◌, ◌≤◌, refl, arith, inl, inr, ℤ, pos, Option, Some, None, IfSome, List, [], ◌∷◌, codes}
+use Rattle.std.proofs.Common.{◌≡◌, ℕ, ◌<◌, ◌≤◌, refl, arith, inr, pos, Some, None, IfSome, List, [], ◌∷◌, codes}
 use Rattle.std.specs.Str.{is_utf8, chars}
 use Rattle.std.proofs.lemmas.Int.{ints}
 use Rattle.toml.proofs.OnLiterals.{toml_on_literals}
-use Rattle.cr_model.specs.declared.query.Count.{Count}
-use Rattle.cr_model.specs.declared.query.MethodCount.{MethodCount}
 use Rattle.cr_model.specs.declared.query.Cell.{Cell}
 use Rattle.cr_model.specs.declared.query.Cell.TheVariants as cell
-use Rattle.cr_model.specs.declared.query.Com.{Com}
 use Rattle.cr_model.specs.Examples.{doubles, marked, lettered, com_from}
-use Rattle.cr_model.specs.Problems.{PatternParts}
 use Rattle.cr_model.specs.Right.{CountIsRight, MethodCountIsRight, PatternIsRight, bell_named, cell_at, IsNamedFirst}
 use Rattle.cr_model.specs.Files.{Limited}
 use Rattle.cr_model.specs.Keys.{key_faults}
