@@ -10,6 +10,12 @@ pub mod Ranges
 pub mod Spelled
 pub mod StepOrder
 pub mod UnknownKeys
+mod ByExample
+mod OneMethod
+mod DoublesRead
+mod DoublesKept
+mod StepsRead
+mod EightRead
 mod OneFileKnown
 mod OneFileTaken
 pub mod TheSteps

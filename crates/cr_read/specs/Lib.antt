@@ -1,3 +1,4 @@
+pub mod Examples
 pub mod FirstKeys
 pub mod Reading
 pub mod Steps

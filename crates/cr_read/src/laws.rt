@@ -8,9 +8,15 @@ ghost use Rattle.cr_model.specs.ProblemFiles.{Tunes, CallsPass, letters_of, lead
 ghost use Rattle.cr_read.specs.Steps.{IsLeadOf};
 ghost use Rattle.cr_model.specs.declared.file_fault.ProblemFault.{ProblemFault};
 
+mod examples;
+
 use cr_notation::{
     a_text_has_one_first_fault, a_text_is_taken_or_refused, a_text_spells_one_list,
     no_text_is_taken_and_refused,
+};
+pub use examples::{
+    a_file_of_ten_lines, faults_of_keys, faults_of_methods_and_calls, faults_of_queries,
+    steps_in_order, what_a_file_leaves_out,
 };
 
 /// The leads of a file whose calls are right are in the order of the steps, and they are the leads that there are: no

@@ -4,6 +4,7 @@
 
 mod boards;
 mod gate;
+pub mod laws;
 mod making;
 mod notes;
 mod outcome;

@@ -1,55 +1,33 @@
 -- What the answer of the values is to the words.
-use Rattle.std.proofs.Common.{◌≡◌, ◌∙◌, refl, ap, sym, ◌⊎◌, inl, inr, Bool, true, false, not, ◌||◌, ◌&&◌, is_some, List, ◌++◌, Ok, Err, IfOk, IfErr, subst}
+use Rattle.std.proofs.Common.{◌≡◌, ◌∙◌, refl, ap, sym, ◌⊎◌, inl, inr, Bool, true, false, List, Ok, Err, IfOk, IfErr, subst}
 use Rattle.std.specs.Prelude.{Result, MatchResult}
-use Rattle.std.specs.List.{list_all}
 use Rattle.std.proofs.lemmas.Bool.{both_ways}
 use Rattle.clap.specs.Words.{Row, Text}
 use Rattle.cr_words.specs.Commands.{are_taken, assigned, assigned_in, rows_in}
-use Rattle.cr_words.specs.Values.{Assigned, IsWishOf, workers_of, turns_of, number_for, is_to_search, is_to_make, is_mixed, when, faults_of}
+use Rattle.cr_words.specs.Values.{Assigned, IsWishOf, has_fault, faults_of}
 use Rattle.cr_words.specs.Readings.{IsFirst, IsRefused, IsAccepted, IsFaultOf, MayFail}
-use Rattle.cr_words.proofs.Faults.{after_workers, after_turns, after_number}
+use Rattle.cr_words.proofs.Faults.{first_holds}
 use Rattle.cr_words.proofs.Wishes.{one_wish, not_both, one_first, wish_or_fault}
 use Rattle.cr_words.specs.declared.fault.WordsFault.{WordsFault}
 use Rattle.cr_words.specs.declared.fault.WordsFault.TheVariants.{Line, Workers, Turns, Number, Mode as NoMode, Mixed, NoMemory}
 use Rattle.cr_words.specs.declared.wish.Wish.{Wish}
 
--- no value's fault is that of the line
-abbrev is_of_value : WordsFault → Bool
-is_of_value Line = false
-is_of_value NoMemory = false
-is_of_value _ = true
-
-more_of_value : (b : Bool) (f : WordsFault) (rest : List WordsFault) → is_of_value f ≡ true → list_all is_of_value rest ≡ true
-    → list_all is_of_value (when b f ++ rest) ≡ true
-more_of_value true f rest is all = ap (λ t. t && list_all is_of_value rest) is ∙ all
-more_of_value false f rest is all = all
-
-last_of_value : (b : Bool) → list_all is_of_value (when b Mixed) ≡ true
-last_of_value true = refl
-last_of_value false = refl
-
-all_of_value : (a : Assigned) → list_all is_of_value (faults_of a) ≡ true
-unfolding faults_of
-all_of_value a =
-    more_of_value (not (is_some (workers_of a))) Workers (after_workers a) refl
-    (more_of_value (not (is_some (turns_of a))) Turns (after_turns a) refl
-    (more_of_value (not (is_some (number_for a))) Number (after_number a) refl
-    (more_of_value (not (is_to_search a || is_to_make a)) NoMode (when (is_mixed a) Mixed) refl (last_of_value (is_mixed a)))))
-
 -- a fault of no value is none of theirs
-of_value : (a : Assigned) (f : WordsFault) → is_of_value f ≡ false → IsFirst (faults_of a) f → ⊥
-of_value a f not_one first =
-    let kept : (is_of_value f && list_all is_of_value first.0) ≡ true = sym (ap (list_all is_of_value) first.1) ∙ all_of_value a in
-    both_ways true (sym kept ∙ ap (λ b. b && list_all is_of_value first.0) not_one) refl
+of_value : (a : Assigned) (f : WordsFault) → has_fault a f ≡ false → IsFirst (faults_of a) f → ⊥
+of_value a f fails first = both_ways true (sym (first_holds a f first) ∙ fails) refl
+
+line_or_memory : (a : Assigned) → (has_fault a Line ≡ false) × (has_fault a NoMemory ≡ false)
+unfolding has_fault
+line_or_memory a = (refl, refl)
 
 first_is_fault : (words : List Text) (f : WordsFault) → are_taken words ≡ true → IsFirst (faults_of (assigned words)) f → IsFaultOf words f
-first_is_fault words Line taken first = absurd (of_value (assigned words) Line refl first)
+first_is_fault words Line taken first = absurd (of_value (assigned words) Line (line_or_memory (assigned words)).0 first)
 first_is_fault words Workers taken first = (taken, first)
 first_is_fault words Turns taken first = (taken, first)
 first_is_fault words Number taken first = (taken, first)
 first_is_fault words NoMode taken first = (taken, first)
 first_is_fault words Mixed taken first = (taken, first)
-first_is_fault words NoMemory taken first = absurd (of_value (assigned words) NoMemory refl first)
+first_is_fault words NoMemory taken first = absurd (of_value (assigned words) NoMemory (line_or_memory (assigned words)).1 first)
 
 -- the answer of the values, of words that are taken
 pub answer_reads : (words : List Text) (a : Assigned) (r : Result Wish WordsFault) → are_taken words ≡ true → a ≡ assigned words

@@ -1,71 +1,94 @@
--- The first fault of assigned values, and that they are a wish or have one.
-use Rattle.std.proofs.Common.{◌≡◌, ◌∙◌, refl, ap, cond, ℕ, Bool, true, false, not, ◌||◌, Option, Some, None, is_some, List, [], ◌∷◌, ◌++◌}
-use Rattle.cr_words.specs.Values.{Assigned, workers_of, turns_of, number_for, mode_of, is_to_search, is_to_make, is_mixed, when, faults_of}
+-- The first fault of assigned values.
+use Rattle.std.proofs.Common.{◌≡◌, ◌∙◌, refl, ap, sym, arith, cond, ℕ, Bool, true, false, not, Option, Some, None, is_some, List, [], ◌∷◌, length, get_or}
+use Rattle.std.specs.Prelude.{filter}
+use Rattle.std.specs.Option.{option_map_or}
+use Rattle.cr_words.specs.Values.{Assigned, Task, workers_of, turns_of, number_for, task_of, exceeds, has_fault, order, faults_of}
 use Rattle.cr_words.specs.Readings.{IsFirst}
 use Rattle.cr_words.specs.declared.fault.WordsFault.{WordsFault}
 use Rattle.cr_words.specs.declared.fault.WordsFault.TheVariants.{Workers, Turns, Number, Mode as NoMode, Mixed}
-use Rattle.cr_words.specs.declared.wish.Mode.{Mode}
-use Rattle.cr_words.specs.declared.wish.Mode.TheVariants.{Search, Make}
-use Rattle.std.proofs.lemmas.Bool.{both_ways}
 
-abbrev pub after_number : Assigned → List WordsFault
-after_number a = when (not (is_to_search a || is_to_make a)) NoMode ++ when (is_mixed a) Mixed
+-- the faults that are looked for after each
+abbrev after_number : List WordsFault
+after_number = NoMode ∷ Mixed ∷ []
 
-abbrev pub after_turns : Assigned → List WordsFault
-after_turns a = when (not (is_some (number_for a))) Number ++ after_number a
+abbrev after_turns : List WordsFault
+after_turns = Number ∷ after_number
 
-abbrev pub after_workers : Assigned → List WordsFault
-after_workers a = when (not (is_some (turns_of a))) Turns ++ after_turns a
+abbrev after_workers : List WordsFault
+after_workers = Turns ∷ after_turns
 
-passes : {X : Type 0} (o : Option X) (x : X) (f : WordsFault) (rest : List WordsFault) → o ≡ Some x → when (not (is_some o)) f ++ rest ≡ rest
-passes o x f rest is = ap (λ o. when (not (is_some o)) f ++ rest) is
+passes : (a : Assigned) (f : WordsFault) (rest : List WordsFault) → has_fault a f ≡ false
+    → filter (has_fault a) (f ∷ rest) ≡ filter (has_fault a) rest
+passes a f rest is = ap (λ b. cond b (f ∷ filter (has_fault a) rest) (filter (has_fault a) rest)) is
 
-stops : {X : Type 0} (o : Option X) (f : WordsFault) (rest : List WordsFault) → o ≡ None → when (not (is_some o)) f ++ rest ≡ f ∷ rest
-stops o f rest is = ap (λ o. when (not (is_some o)) f ++ rest) is
+stops : (a : Assigned) (f : WordsFault) (rest : List WordsFault) → has_fault a f ≡ true
+    → filter (has_fault a) (f ∷ rest) ≡ f ∷ filter (has_fault a) rest
+stops a f rest is = ap (λ b. cond b (f ∷ filter (has_fault a) rest) (filter (has_fault a) rest)) is
 
-pub past_workers : (a : Assigned) (n : ℕ) → workers_of a ≡ Some n → faults_of a ≡ after_workers a
-unfolding faults_of
-past_workers a n is = passes _ n Workers _ is
+past_workers : (a : Assigned) (n : ℕ) → workers_of a ≡ Some n → faults_of a ≡ filter (has_fault a) after_workers
+unfolding faults_of has_fault
+past_workers a n is = passes a Workers after_workers (ap (λ o. not (is_some o)) is)
 
-pub past_turns : (a : Assigned) (n : ℕ) (t : Option ℕ) → workers_of a ≡ Some n → turns_of a ≡ Some t → faults_of a ≡ after_turns a
-past_turns a n t is also = past_workers a n is ∙ passes _ t Turns _ also
+past_turns : (a : Assigned) (n : ℕ) (t : Option ℕ) → workers_of a ≡ Some n → turns_of a ≡ Some t → faults_of a ≡ filter (has_fault a) after_turns
+unfolding has_fault
+past_turns a n t is also = past_workers a n is ∙ passes a Turns after_turns (ap (λ o. not (is_some o)) also)
 
-pub past_number : (a : Assigned) (n : ℕ) (t : Option ℕ) (k : ℕ) → workers_of a ≡ Some n → turns_of a ≡ Some t → number_for a ≡ Some k
-    → faults_of a ≡ after_number a
-past_number a n t k is also too = past_turns a n t is also ∙ passes _ k Number _ too
+past_number : (a : Assigned) (n : ℕ) (t : Option ℕ) (k : ℕ) → workers_of a ≡ Some n → turns_of a ≡ Some t → number_for a ≡ Some k
+    → faults_of a ≡ filter (has_fault a) after_number
+unfolding has_fault
+past_number a n t k is also too = past_turns a n t is also ∙ passes a Number after_number (ap (λ o. not (is_some o)) too)
 
-named_by : (s m : Bool) (k : ℕ) (mode : Mode) (rest : List WordsFault) → cond s (Some Search) (cond m (Some (Make k)) None) ≡ Some mode
-    → when (not (s || m)) NoMode ++ rest ≡ rest
-named_by true m k mode rest e = refl
-named_by false true k mode rest e = refl
-named_by false false k mode rest e = absurd (both_ways false refl (ap is_some e))
+past_mode : (a : Assigned) (n : ℕ) (t : Option ℕ) (k : ℕ) (task : Task) → workers_of a ≡ Some n → turns_of a ≡ Some t
+    → number_for a ≡ Some k → task_of a ≡ Some task → faults_of a ≡ filter (has_fault a) (Mixed ∷ [])
+unfolding has_fault
+past_mode a n t k task is also too named =
+    past_number a n t k is also too ∙ passes a NoMode (Mixed ∷ []) (ap (λ o. not (is_some o)) named)
 
-unnamed_by : (s m : Bool) (k : ℕ) (rest : List WordsFault) → cond s (Some Search) (cond m (Some (Make k)) None) ≡ None
-    → when (not (s || m)) NoMode ++ rest ≡ NoMode ∷ rest
-unnamed_by true m k rest e = absurd (both_ways true (ap is_some e) refl)
-unnamed_by false true k rest e = absurd (both_ways true (ap is_some e) refl)
-unnamed_by false false k rest e = refl
+mixed_by : (a : Assigned) (task : Task) → task_of a ≡ Some task → has_fault a Mixed ≡ exceeds a task
+unfolding has_fault
+mixed_by a task named = ap (λ o. option_map_or (exceeds a) o false) named
+
+pub no_fault : (a : Assigned) (n : ℕ) (t : Option ℕ) (k : ℕ) (task : Task) → workers_of a ≡ Some n → turns_of a ≡ Some t
+    → number_for a ≡ Some k → task_of a ≡ Some task → exceeds a task ≡ false → faults_of a ≡ []
+no_fault a n t k task is also too named unmixed =
+    past_mode a n t k task is also too named ∙ passes a Mixed [] (mixed_by a task named ∙ unmixed)
 
 pub first_workers : (a : Assigned) → workers_of a ≡ None → IsFirst (faults_of a) Workers
-unfolding faults_of
-first_workers a none = (after_workers a, stops (workers_of a) Workers (after_workers a) none)
+unfolding faults_of has_fault
+first_workers a none = (filter (has_fault a) after_workers, stops a Workers after_workers (ap (λ o. not (is_some o)) none))
 
 pub first_turns : (a : Assigned) (n : ℕ) → workers_of a ≡ Some n → turns_of a ≡ None → IsFirst (faults_of a) Turns
-first_turns a n is none = (after_turns a, past_workers a n is ∙ stops _ Turns _ none)
+unfolding has_fault
+first_turns a n is none =
+    (filter (has_fault a) after_turns, past_workers a n is ∙ stops a Turns after_turns (ap (λ o. not (is_some o)) none))
 
 pub first_number : (a : Assigned) (n : ℕ) (t : Option ℕ) → workers_of a ≡ Some n → turns_of a ≡ Some t → number_for a ≡ None
     → IsFirst (faults_of a) Number
-first_number a n t is also none = (after_number a, past_turns a n t is also ∙ stops _ Number _ none)
+unfolding has_fault
+first_number a n t is also none =
+    (filter (has_fault a) after_number, past_turns a n t is also ∙ stops a Number after_number (ap (λ o. not (is_some o)) none))
 
 pub first_mode : (a : Assigned) (n : ℕ) (t : Option ℕ) (k : ℕ) → workers_of a ≡ Some n → turns_of a ≡ Some t → number_for a ≡ Some k
-    → mode_of k a ≡ None → IsFirst (faults_of a) NoMode
+    → task_of a ≡ None → IsFirst (faults_of a) NoMode
+unfolding has_fault
 first_mode a n t k is also too none =
-    (when (is_mixed a) Mixed, past_number a n t k is also too ∙ unnamed_by (is_to_search a) (is_to_make a) k _ none)
+    (filter (has_fault a) (Mixed ∷ []), past_number a n t k is also too ∙ stops a NoMode (Mixed ∷ []) (ap (λ o. not (is_some o)) none))
 
-pub past_mode : (a : Assigned) (n : ℕ) (t : Option ℕ) (k : ℕ) (mode : Mode) → workers_of a ≡ Some n → turns_of a ≡ Some t
-    → number_for a ≡ Some k → mode_of k a ≡ Some mode → faults_of a ≡ when (is_mixed a) Mixed
-past_mode a n t k mode is also too named = past_number a n t k is also too ∙ named_by (is_to_search a) (is_to_make a) k mode _ named
+pub first_mixed : (a : Assigned) (n : ℕ) (t : Option ℕ) (k : ℕ) (task : Task) → workers_of a ≡ Some n → turns_of a ≡ Some t
+    → number_for a ≡ Some k → task_of a ≡ Some task → exceeds a task ≡ true → IsFirst (faults_of a) Mixed
+first_mixed a n t k task is also too named mixed =
+    ([], past_mode a n t k task is also too named ∙ stops a Mixed [] (mixed_by a task named ∙ mixed))
 
-pub first_mixed : (a : Assigned) (n : ℕ) (t : Option ℕ) (k : ℕ) (mode : Mode) → workers_of a ≡ Some n → turns_of a ≡ Some t
-    → number_for a ≡ Some k → mode_of k a ≡ Some mode → is_mixed a ≡ true → IsFirst (faults_of a) Mixed
-first_mixed a n t k mode is also too named mixed = ([], past_mode a n t k mode is also too named ∙ ap (λ b. when b Mixed) mixed)
+-- the first that is listed holds
+held_by : (p : WordsFault → Bool) (x f : WordsFault) (xs rest : List WordsFault) (b : Bool) → p x ≡ b
+    → (filter p xs ≡ f ∷ rest → p f ≡ true) → cond b (x ∷ filter p xs) (filter p xs) ≡ f ∷ rest → p f ≡ true
+held_by p x f xs rest true is later e = ap p (sym (ap (λ (fs : List WordsFault). get_or fs 0 f) e)) ∙ is
+held_by p x f xs rest false is later e = later e
+
+held : (p : WordsFault → Bool) (xs : List WordsFault) (f : WordsFault) (rest : List WordsFault) → filter p xs ≡ f ∷ rest → p f ≡ true
+held p [] f rest e = let counted : 0 ≡ length (f ∷ rest) = ap length e in absurd (omega (arith, counted))
+held p (x ∷ xs) f rest e = held_by p x f xs rest (p x) refl (held p xs f rest) e
+
+pub first_holds : (a : Assigned) (f : WordsFault) → IsFirst (faults_of a) f → has_fault a f ≡ true
+unfolding faults_of
+first_holds a f first = held (has_fault a) order f first.0 first.1

@@ -1,11 +1,12 @@
 -- The command of the command line, and what the words assign by clap's definition for a simple command.
-use Rattle.std.specs.Prelude.{Bool, true, List, [], ◌∷◌, Some, codes, map, String, string_bytes}
+use Rattle.std.specs.Prelude.{Bool, true, List, [], ◌∷◌, Option, Some, None, codes, map, String, string_bytes}
 use Rattle.std.specs.declared.alloc.Global.{Global}
-use Rattle.clap.specs.Words.{App, Row, Rule, Text, new_app, new_rule, with_rule, matches_of, first_of, takes}
+use Rattle.clap.specs.Words.{App, Row, Rule, Text, new_app, new_rule, with_rule, found_of, rows_of, matches_of, first_of, takes}
 use Rattle.clap.specs.Takes.{is_given}
 use Rattle.clap.specs.Simple.{on_top}
+use Rattle.clap.specs.declared.parser.matches.ArgMatches.{ArgMatches}
 use Rattle.clap.specs.declared.builder.action.ArgAction.TheVariants.{Set}
-use Rattle.cr_words.specs.Values.{Assigned}
+use Rattle.cr_words.specs.Values.{Assigned, Choice, choices}
 
 -- an option that takes one value
 abbrev pub option_with : Text → List Text → Rule
@@ -15,12 +16,20 @@ option_with id defaults = record (new_rule id) { long = Some id; action = Some S
 abbrev pub bare_app : App
 bare_app = on_top (λ s. record s { no_binary_name = true }) (new_app (codes "ringsearch"))
 
+-- the rule of an option beside `--do`
+abbrev pub defaults_of : Option Text → List Text
+defaults_of None = []
+defaults_of (Some text) = text ∷ []
+
+abbrev pub rule_for : Choice → Rule
+rule_for choice = option_with choice.name (defaults_of choice.default)
+
+abbrev pub with_rules : App → List Rule → App
+with_rules app [] = app
+with_rules app (rule ∷ rules) = with_rules (with_rule app rule) rules
+
 abbrev pub ring_app : App
-ring_app = with_rule (with_rule (with_rule (with_rule bare_app
-    (option_with (codes "workers") (codes "1" ∷ [])))
-    (option_with (codes "turns") []))
-    (option_with (codes "do") (codes "search" ∷ [])))
-    (option_with (codes "number") (codes "0" ∷ []))
+ring_app = with_rules bare_app (option_with (codes "do") (codes "search" ∷ []) ∷ map rule_for choices)
 
 abbrev pub texts_of : List (String Global) → List Text
 texts_of = map string_bytes
@@ -34,14 +43,11 @@ unfoldable pub rows_in : List Text → List Row
 rows_in words = matches_of ring_app words
 
 abbrev pub assigned_in : List Row → Assigned
-assigned_in rows = record {
-  workers = first_of (codes "workers") rows;
-  turns = first_of (codes "turns") rows;
-  task = first_of (codes "do") rows;
-  number = first_of (codes "number") rows;
-  has_turns = is_given (codes "turns") rows;
-  has_number = is_given (codes "number") rows;
-}
+assigned_in rows = record { value = λ name. first_of name rows; is_given = λ name. is_given name rows }
+
+-- what the matches that clap gives assign
+abbrev pub values_of : ArgMatches → Assigned
+values_of matches = assigned_in (rows_of (found_of matches))
 
 -- what the words assign
 unfoldable pub assigned : List Text → Assigned

@@ -1,26 +1,50 @@
--- What the assigned values must be, and which wish they are.
-use Rattle.std.specs.Prelude.{◌≡◌, ℕ, Bool, false, not, ◌&&◌, ◌||◌, cond, List, [], ◌∷◌, ◌++◌, Option, Some, None, is_some, option_map, option_and_then, codes}
+-- The options and the modes, what the assigned values must be, and which wish they are.
+use Rattle.std.specs.Prelude.{◌≡◌, ℕ, Bool, false, not, ◌&&◌, List, [], ◌∷◌, filter, find, Option, Some, None, is_some, option_map, option_and_then, codes}
+use Rattle.std.specs.List.{list_any}
 use Rattle.std.specs.Option.{option_map_or}
 use Rattle.std.specs.Str.{bytes_eq}
 use Rattle.cr_words.specs.Numbers.{number_from}
 use Rattle.cr_words.specs.declared.fault.WordsFault.{WordsFault}
-use Rattle.cr_words.specs.declared.fault.WordsFault.TheVariants.{Workers, Turns, Number, Mode as NoMode, Mixed}
+use Rattle.cr_words.specs.declared.fault.WordsFault.TheVariants as fault
+use Rattle.cr_words.specs.declared.table.Kind.{Kind}
+use Rattle.cr_words.specs.declared.table.Kind.TheVariants as kind
 use Rattle.cr_words.specs.declared.wish.Wish.{Wish}
 use Rattle.cr_words.specs.declared.wish.Mode.{Mode}
 use Rattle.cr_words.specs.declared.wish.Mode.TheVariants.{Search, Make}
 
--- the value of each option, its default where it was not given, and whether `--turns` and `--number` were
+-- an option beside `--do`, and its value where it is not given
+pub record Choice : Type 0 where
+  pub name : List ℕ
+  pub default : Option (List ℕ)
+
+abbrev pub choices : List Choice
+choices =
+    record { name = codes "workers"; default = Some (codes "1") }
+    ∷ record { name = codes "turns"; default = None }
+    ∷ record { name = codes "number"; default = Some (codes "0") }
+    ∷ []
+
+-- what `--do` may name: the name, which mode that is, and the options that the mode uses
+pub record Task : Type 0 where
+  pub name : List ℕ
+  pub kind : Kind
+  pub uses : List (List ℕ)
+
+abbrev pub tasks : List Task
+tasks =
+    record { name = codes "search"; kind = kind.Search; uses = codes "workers" ∷ codes "turns" ∷ [] }
+    ∷ record { name = codes "make"; kind = kind.Make; uses = codes "workers" ∷ codes "number" ∷ [] }
+    ∷ []
+
+-- what is assigned to each option, by its name: its value, which is its default where it was not given, and whether it
+-- was given
 pub record Assigned : Type 0 where
-  pub workers : Option (List ℕ)
-  pub turns : Option (List ℕ)
-  pub task : Option (List ℕ)
-  pub number : Option (List ℕ)
-  pub has_turns : Bool
-  pub has_number : Bool
+  pub value : List ℕ → Option (List ℕ)
+  pub is_given : List ℕ → Bool
 
 -- `--workers`: 1 to 64
 abbrev pub workers_of : Assigned → Option ℕ
-workers_of a = option_and_then (number_from 1 64) a.workers
+workers_of a = option_and_then (number_from 1 64) (a.value (codes "workers"))
 
 -- `--turns`: none, or 0 to 2^63 - 1
 abbrev pub turns_among : Option (List ℕ) → Option (Option ℕ)
@@ -28,46 +52,59 @@ turns_among None = Some None
 turns_among (Some text) = option_map Some (number_from 0 9223372036854775807 text)
 
 abbrev pub turns_of : Assigned → Option (Option ℕ)
-turns_of a = turns_among a.turns
+turns_of a = turns_among (a.value (codes "turns"))
 
 -- `--number`: 0 to 2^32 - 1
 abbrev pub number_for : Assigned → Option ℕ
-number_for a = option_and_then (number_from 0 4294967295) a.number
+number_for a = option_and_then (number_from 0 4294967295) (a.value (codes "number"))
 
--- `--do` has this value
-abbrev pub is_to : List ℕ → Assigned → Bool
-is_to word a = option_map_or (λ text. bytes_eq text word) a.task false
+-- the first of some tasks that has the name
+abbrev pub named : List Task → List ℕ → Option Task
+named among word = find (λ task. bytes_eq word task.name) among
 
-abbrev pub is_to_search : Assigned → Bool
-is_to_search = is_to (codes "search")
+-- `--do`: one of the tasks
+abbrev pub task_of : Assigned → Option Task
+task_of a = option_and_then (named tasks) (a.value (codes "do"))
 
-abbrev pub is_to_make : Assigned → Bool
-is_to_make = is_to (codes "make")
+-- the mode of a kind, with its number
+abbrev pub mode_for : Assigned → Kind → Option Mode
+mode_for a kind.Search = Some Search
+mode_for a kind.Make = option_map Make (number_for a)
 
--- `--do`: `search`, or `make` with that number
-abbrev pub mode_of : ℕ → Assigned → Option Mode
-mode_of number a = cond (is_to_search a) (Some Search) (cond (is_to_make a) (Some (Make number)) None)
+abbrev pub mode_of : Assigned → Option Mode
+mode_of a = option_and_then (λ task. mode_for a task.kind) (task_of a)
 
--- a number was given for a search, or turns for a made problem
-abbrev pub is_mixed : Assigned → Bool
-is_mixed a = (a.has_number && is_to_search a) || (a.has_turns && is_to_make a)
+abbrev pub is_among : List (List ℕ) → List ℕ → Bool
+is_among names name = list_any (λ other. bytes_eq other name) names
 
--- each value is in the table, none was given that the mode has no use for, and the wish is theirs
+-- an option is given, and the task has no use for it
+abbrev pub is_beyond : Assigned → Task → Choice → Bool
+is_beyond a task choice = a.is_given choice.name && not (is_among task.uses choice.name)
+
+-- an option is given that the task has no use for
+abbrev pub exceeds : Assigned → Task → Bool
+exceeds a task = list_any (is_beyond a task) choices
+
+-- what each fault of values says of them
+unfoldable pub has_fault : Assigned → WordsFault → Bool
+has_fault a fault.Workers = not (is_some (workers_of a))
+has_fault a fault.Turns = not (is_some (turns_of a))
+has_fault a fault.Number = not (is_some (number_for a))
+has_fault a fault.Mode = not (is_some (task_of a))
+has_fault a fault.Mixed = option_map_or (exceeds a) (task_of a) false
+has_fault a _ = false
+
+-- the faults of values, in the order in which they are looked for
+abbrev pub order : List WordsFault
+order = fault.Workers ∷ fault.Turns ∷ fault.Number ∷ fault.Mode ∷ fault.Mixed ∷ []
+
+-- all that is wrong with the values, in that order
+unfoldable pub faults_of : Assigned → List WordsFault
+faults_of a = filter (has_fault a) order
+
+-- nothing is wrong with the values, and the wish is theirs
 pub record IsWishOf (a : Assigned) (wish : Wish) : Type 0 where
-  pub number : ℕ
   pub has_workers : workers_of a ≡ Some wish.workers
   pub has_turns : turns_of a ≡ Some wish.turns
-  pub has_number : number_for a ≡ Some number
-  pub has_mode : mode_of number a ≡ Some wish.mode
-  pub unmixed : is_mixed a ≡ false
-
-abbrev pub when : Bool → WordsFault → List WordsFault
-when holds fault = cond holds (fault ∷ []) []
-
--- all that is wrong with the values, in the order of the faults
-unfoldable pub faults_of : Assigned → List WordsFault
-faults_of a = when (not (is_some (workers_of a))) Workers
-    ++ (when (not (is_some (turns_of a))) Turns
-    ++ (when (not (is_some (number_for a))) Number
-    ++ (when (not (is_to_search a || is_to_make a)) NoMode
-    ++ when (is_mixed a) Mixed)))
+  pub has_mode : mode_of a ≡ Some wish.mode
+  pub right : faults_of a ≡ []

@@ -1,12 +1,15 @@
 //! The command that clap parses the words by.
 
-ghost use Rattle.std.specs.Prelude.{◌≡◌, IfOk, IfErr, true, false, Bool, [], ◌∷◌};
+ghost use Rattle.std.specs.Prelude.{◌≡◌, IfOk, IfErr, true, false, Bool, [], ◌∷◌, map};
 ghost use Rattle.clap.specs.Words.{found_of, rows_of, rule_of, app_of, with_rule, kind_of};
-ghost use Rattle.cr_words.specs.Commands.{ring_app, bare_app, option_with, texts_of, rows_in, are_taken};
+ghost use Rattle.cr_words.specs.Commands.{ring_app, bare_app, option_with, rule_for, with_rules};
+ghost use Rattle.cr_words.specs.Commands.{texts_of, rows_in, are_taken};
+ghost use Rattle.cr_words.specs.Tables.{choice_of};
 ghost use Rattle.clap.specs.declared.error.kind.ErrorKind.TheVariants.{OutOfMemory};
 ghost use Rattle.cr_words.specs.Readings.{IsRefused, MayFail};
 
 use crate::WordsFault;
+use crate::table::{CHOICES, Choice};
 use clap::error::ErrorKind;
 use clap::{Arg, ArgAction, ArgMatches, Command, Error};
 use std::alloc::{AllocError, Global};
@@ -27,6 +30,17 @@ fn option_or<'a>(alloc: Global, name: &'a str, value: &'a str) -> Arg<'a>
     option_named(alloc, name).default_value(value)
 }
 
+// The option of a row of the table.
+fn option_of<'a>(alloc: Global, choice: &Choice) -> Arg<'a>
+    ensures rule { rule_of result ≡ rule_for (choice_of choice.now) }
+    ensures local { result.global ≡ false }
+{
+    match choice.default {
+        Some(value) => option_or(alloc, choice.name, value),
+        None => option_named(alloc, choice.name),
+    }
+}
+
 // The command without its options.
 fn bare_command<'a>(alloc: Global) -> Command<'a>
     ensures { app_of result ≡ bare_app }
@@ -42,15 +56,27 @@ fn with_option<'a>(command: Command<'a>, option: Arg<'a>) -> Result<Command<'a>,
     command.arg(option)
 }
 
+// The command with some more options.
+fn with_options<'a>(
+    alloc: Global,
+    command: Command<'a>,
+    choices: &[Choice],
+) -> Result<Command<'a>, AllocError>
+    ensures { IfOk result (λ c. app_of c ≡ with_rules (app_of command.entry) (map rule_for (map choice_of choices.now))) }
+{
+    let mut command = command;
+    for choice in choices {
+        command = with_option(command, option_of(alloc, choice))?;
+    }
+    Ok(command)
+}
+
 // The whole command.
 fn ring_command<'a>(alloc: Global) -> Result<Command<'a>, AllocError>
     ensures { IfOk result (λ c. app_of c ≡ ring_app) }
 {
-    let command = bare_command(alloc);
-    let command = with_option(command, option_or(alloc, "workers", "1"))?;
-    let command = with_option(command, option_named(alloc, "turns"))?;
-    let command = with_option(command, option_or(alloc, "do", "search"))?;
-    with_option(command, option_or(alloc, "number", "0"))
+    let command = with_option(bare_command(alloc), option_or(alloc, "do", "search"))?;
+    with_options(alloc, command, CHOICES)
 }
 
 // What an error means: want of memory, or that the words are not taken.

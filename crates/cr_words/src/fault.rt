@@ -2,7 +2,7 @@
 
 use thiserror::Error;
 
-/// Why words are no wish: the first that is wrong, in the order of the variants.
+/// Why words are no wish: the first that is wrong, in the order in which it is looked for.
 #[derive(Clone, Copy, Debug, PartialEq, Eq, Drop, Error)]
 pub enum WordsFault {
     /// The words are not those of the command line: an unknown option, one given twice or without its value, a word

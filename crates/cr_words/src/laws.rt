@@ -59,8 +59,8 @@ pub fn lines_read_as_wishes()
     ensures lone { ReadsAs (line (codes "--")) (record { workers = 1; turns = None; mode = mode.Search }) }
 {}
 
-/// Lines and all that is wrong with what they assign, in the order of the faults. A number has one to nineteen digits
-/// and no sign.
+/// Lines and all that is wrong with what they assign, in the order in which it is looked for. A number has one to
+/// nineteen digits and no sign. Each mode is asked for with each option, which it uses or does not.
 pub fn lines_have_faults()
     ensures workers { map line_faults (codes "--workers 0" ∷ codes "--workers 65" ∷ codes "--workers="
         ∷ codes "--workers +5" ∷ [])
@@ -73,6 +73,10 @@ pub fn lines_have_faults()
         ≡ (fault.Mode ∷ []) ∷ (fault.Mode ∷ []) ∷ (fault.Mode ∷ []) ∷ (fault.Mode ∷ []) ∷ [] }
     ensures mixed { map line_faults (codes "--do make --turns 5" ∷ codes "--number 1" ∷ codes "--number 0" ∷ [])
         ≡ (fault.Mixed ∷ []) ∷ (fault.Mixed ∷ []) ∷ (fault.Mixed ∷ []) ∷ [] }
+    ensures used { map line_faults (codes "--do search --workers 1" ∷ codes "--do search --turns 1"
+        ∷ codes "--do search --number 1" ∷ codes "--do make --workers 1" ∷ codes "--do make --turns 1"
+        ∷ codes "--do make --number 1" ∷ [])
+        ≡ [] ∷ [] ∷ (fault.Mixed ∷ []) ∷ [] ∷ (fault.Mixed ∷ []) ∷ [] ∷ [] }
     ensures many { map line_faults (codes "--do make --number 4294967296" ∷ codes "--number x"
         ∷ codes "--do make --turns x" ∷ codes "--do z --number y --turns x --workers w" ∷ [])
         ≡ (fault.Number ∷ []) ∷ (fault.Number ∷ fault.Mixed ∷ []) ∷ (fault.Turns ∷ fault.Mixed ∷ [])

@@ -6,6 +6,7 @@ mod fault;
 pub mod laws;
 mod numbers;
 mod reading;
+mod table;
 mod values;
 mod wish;
 
