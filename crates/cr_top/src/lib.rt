@@ -2,12 +2,16 @@
 //! checkpoint.
 #![tactic(auto)]
 
+mod answers;
 mod boards;
 mod gate;
 mod making;
 mod notes;
 mod outcome;
 mod piece;
+mod preparing;
+mod refusal;
+mod search;
 mod searching;
 mod start;
 mod status;
@@ -16,5 +20,6 @@ mod writing;
 
 pub use gate::{Gate, OpenGate};
 pub use notes::write_note;
+pub use search::search_alone;
 pub use status::Status;
 pub use top::ringsearch;
