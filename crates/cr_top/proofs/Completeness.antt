@@ -9,14 +9,15 @@ use Rattle.cr_io.specs.Ends.{TookMore}
 use Rattle.cr_model.specs.Problems.{ProblemParts}
 use Rattle.cr_model.specs.Sizes.{most_rows, size_of_all}
 use Rattle.cr_model.specs.declared.file_fault.ProblemFault.{ProblemFault}
-use Rattle.cr_model.specs.Sound.{IsSound}
 use Rattle.cr_model.specs.Inputs.{Input}
 use Rattle.cr_store.specs.declared.fault.CheckFault.{CheckFault}
 use Rattle.cr_top.specs.declared.status.Status.{Status}
 use Rattle.cr_top.specs.declared.status.Status.TheVariants as ended
+use Rattle.cr_top.specs.OneAnswer.{HasOneAnswer}
 use Rattle.cr_top.specs.Runs.{KeepsTo}
 use Rattle.cr_top.specs.Texts.{IsBookOf, IsStopOf, IsReached, IsTextOf, IsNoProblem, IsNoCheckpoint}
-use Rattle.cr_top.specs.Endings.{IsDue, WasRead, WasTold, EndsSearch, EndsMake}
+use Rattle.cr_top.specs.Streams.{Reading, Writing, WasRead, WasTold}
+use Rattle.cr_top.specs.Endings.{IsDue, EndsSearch, EndsMake}
 
 -- no more was taken than was left
 taken_of_told : (left now : Option (List ℕ)) (told taken : List ℕ) → left ≡ Some told → Consumes left now taken
@@ -40,18 +41,17 @@ Says turns input (ended.Problem fault) = (length input ≤ 2 ^ 40) × IsNoProble
 Says turns input (ended.Checkpoint fault) = (length input ≤ 2 ^ 40) × IsNoCheckpoint input fault
 Says turns input ended.TooLong = 2 ^ 40 < length input
 Says turns input ended.NoMemory = ⊤
-Says turns input (ended.Words fault) = ⊥
-Says turns input ended.ReadFault = ⊥
+Says turns input status = ⊥
 
-module _ {S K : Type 0} (took : S → S → List ℕ → Type 0) (left : S → Option (List ℕ)) (s_faults : S → ℕ) (s_old s_new : S)
-    (grew : K → K → List ℕ → Type 0) (k_faults : K → ℕ) (k_old k_new : K) (turns : Option ℕ) where
+module _ {S K : Type 0} (source : Reading S) (sink : Writing K) (turns : Option ℕ) where
   -- a search from a source that told its bytes, with no read that failed
-  module _ (shows : (taken : List ℕ) → took s_old s_new taken → Consumes (left s_old) (left s_new) taken)
-      (input : List ℕ) (told : left s_old ≡ Some input) (reads : Rose (s_faults s_old) (s_faults s_new) → ⊥) where
-    same : (taken : List ℕ) → WasRead took left s_old s_new taken → taken ≡ input
-    same taken is = sym (the_input (left s_old) input taken told is.told)
+  module _ (shows : (taken : List ℕ) → source.took source.old source.new taken → Consumes (source.left source.old) (source.left source.new) taken)
+      (input : List ℕ) (told : source.left source.old ≡ Some input)
+      (reads : Rose (source.faults source.old) (source.faults source.new) → ⊥) where
+    same : (taken : List ℕ) → WasRead source taken → taken ≡ input
+    same taken is = sym (the_input (source.left source.old) input taken told is.told)
 
-    pub says : (status : Status) → EndsSearch took left s_faults s_old s_new grew k_faults k_old k_new turns status → Says turns input status
+    pub says : (status : Status) → EndsSearch source sink turns status → Says turns input status
     says ended.Finished ends =
         subst (λ x. (length x ≤ 2 ^ 40) × ((text : List ℕ) × IsBookOf turns x text)) (same ends.0 ends.2) (ends.2.short, (ends.1, ends.3))
     says (ended.Stopped after) ends =
@@ -60,59 +60,39 @@ module _ {S K : Type 0} (took : S → S → List ℕ → Type 0) (left : S → O
     says ended.WriteFault ends =
         subst (λ x. (length x ≤ 2 ^ 40) × ((text : List ℕ) × IsTextOf turns x text)) (same ends.0 ends.2) (ends.2.short, (ends.1, ends.3))
     says (ended.Problem fault) ends =
-        subst (λ x. (length x ≤ 2 ^ 40) × IsNoProblem x fault) (same ends.0 ends.1) (ends.1.short, ends.2)
+        subst (λ x. (length x ≤ 2 ^ 40) × IsNoProblem x fault) (same ends.0.0 ends.0.1) (ends.0.1.short, ends.0.2)
     says (ended.Checkpoint fault) ends =
-        subst (λ x. (length x ≤ 2 ^ 40) × IsNoCheckpoint x fault) (same ends.0 ends.1) (ends.1.short, ends.2)
+        subst (λ x. (length x ≤ 2 ^ 40) × IsNoCheckpoint x fault) (same ends.0.0 ends.0.1) (ends.0.1.short, ends.0.2)
     says ended.TooLong ends =
-        let more : TookMore took s_old s_new (2 ^ 40) = ends.0 in
+        let more : TookMore source.took source.old source.new (2 ^ 40) = ends.0.0 in
         omega (arith, more.2, taken_of_told _ _ input more.0 told (shows more.0 more.1))
     says ended.NoMemory ends = tt
-    says (ended.Words fault) ends = absurd ends
-    says ended.ReadFault ends = absurd (reads ends.1)
+    says (ended.Words fault) ends = absurd ends.0
+    says ended.ReadFault ends = absurd (reads ends.0.1)
 
   -- where no write failed, a search did not end so
-  pub no_write_fault : (Rose (k_faults k_old) (k_faults k_new) → ⊥) → (status : Status)
-      → EndsSearch took left s_faults s_old s_new grew k_faults k_old k_new turns status → status ≡ ended.WriteFault → ⊥
-  no_write_fault writes ended.WriteFault ends is = writes ends.5
-  no_write_fault writes ended.Finished ends is = absurd (cc)
-  no_write_fault writes (ended.Words fault) ends is = absurd (cc)
-  no_write_fault writes (ended.Stopped after) ends is = absurd (cc)
-  no_write_fault writes (ended.Problem fault) ends is = absurd (cc)
-  no_write_fault writes (ended.Checkpoint fault) ends is = absurd (cc)
-  no_write_fault writes ended.ReadFault ends is = absurd (cc)
-  no_write_fault writes ended.NoMemory ends is = absurd (cc)
-  no_write_fault writes ended.TooLong ends is = absurd (cc)
+  pub no_write_fault : (Rose (sink.faults sink.old) (sink.faults sink.new) → ⊥) → (status : Status)
+      → EndsSearch source sink turns status → status ≡ ended.WriteFault → ⊥
+  no_write_fault writes status ends is =
+      let cut : EndsSearch source sink turns ended.WriteFault = subst (EndsSearch source sink turns) is ends in
+      writes cut.4.rose
 
 -- a made problem's summary is written where no write failed and memory was there
-pub made : {K : Type 0} (grew : K → K → List ℕ → Type 0) (faults : K → ℕ) (old new : K) (number : ℕ) → (Rose (faults old) (faults new) → ⊥)
-    → (status : Status) → EndsMake grew faults old new number status → (status ≡ ended.Finished) ⊎ (status ≡ ended.NoMemory)
-made grew faults old new number writes ended.Finished ends = inl refl
-made grew faults old new number writes ended.NoMemory ends = inr refl
-made grew faults old new number writes ended.WriteFault ends = absurd (writes ends.3)
-made grew faults old new number writes (ended.Words fault) ends = absurd ends
-made grew faults old new number writes (ended.Stopped after) ends = absurd ends
-made grew faults old new number writes (ended.Problem fault) ends = absurd ends
-made grew faults old new number writes (ended.Checkpoint fault) ends = absurd ends
-made grew faults old new number writes ended.ReadFault ends = absurd ends
-made grew faults old new number writes ended.TooLong ends = absurd ends
+pub made : {K : Type 0} (sink : Writing K) (number : ℕ) → (Rose (sink.faults sink.old) (sink.faults sink.new) → ⊥)
+    → (status : Status) → EndsMake sink number status → (status ≡ ended.Finished) ⊎ (status ≡ ended.NoMemory)
+made sink number writes ended.Finished ends = inl refl
+made sink number writes ended.NoMemory ends = inr refl
+made sink number writes ended.WriteFault ends = absurd (writes ends.2.rose)
+made sink number writes (ended.Words fault) ends = absurd ends
+made sink number writes (ended.Stopped after) ends = absurd ends
+made sink number writes (ended.Problem fault) ends = absurd ends
+made sink number writes (ended.Checkpoint fault) ends = absurd ends
+made sink number writes ended.ReadFault ends = absurd ends
+made sink number writes ended.TooLong ends = absurd ends
 
--- the problem of an input passes all checks
-input_is_sound : (input bytes : List ℕ) (p : ProblemParts) (found nodes : List (List ℕ)) → Input input bytes p found nodes → IsSound p
-input_is_sound input bytes p found nodes (inl is) = is.file.problem.sound
-input_is_sound input bytes p found nodes (inr is) = is.file.sound
-
--- an input has one size and no fault, and bytes have one fault of a kind at most
-module _ (input : List ℕ)
-    (one_size : length input ≤ 2 ^ 40 → (bytes : List ℕ) (p : ProblemParts) (found nodes : List (List ℕ)) (others : List ℕ) (q : ProblemParts) (those these : List (List ℕ))
-    → Input input bytes p found nodes → Input input others q those these → size_of_all p most_rows nodes ≡ size_of_all q most_rows these)
-    (no_problem_fault : (bytes : List ℕ) (p : ProblemParts) (found nodes : List (List ℕ)) (fault : ProblemFault)
-    → Input input bytes p found nodes → IsNoProblem input fault → ⊥)
-    (no_check_fault : length input ≤ 2 ^ 40 → (bytes : List ℕ) (p : ProblemParts) (found nodes : List (List ℕ)) (fault : CheckFault)
-    → Input input bytes p found nodes → IsNoCheckpoint input fault → ⊥)
-    (one_problem_fault : (a b : ProblemFault) → IsNoProblem input a → IsNoProblem input b → a ≡ b)
-    (one_check_fault : (a b : CheckFault) → IsNoCheckpoint input a → IsNoCheckpoint input b → a ≡ b) where
-  module _ (some : (p : ProblemParts) → IsSound p → (nodes : List (List ℕ)) → 0 < length nodes → 1 ≤ size_of_all p most_rows nodes)
-      (turns : Option ℕ) (bytes : List ℕ) (p : ProblemParts) (found nodes : List (List ℕ)) (is : Input input bytes p found nodes)
+-- each input has the answer that it is due, unless memory was wanting
+module _ (input : List ℕ) (one : HasOneAnswer input) where
+  module _ (turns : Option ℕ) (bytes : List ℕ) (p : ProblemParts) (found nodes : List (List ℕ)) (is : Input input bytes p found nodes)
       (short : length input ≤ 2 ^ 40) where
     -- a stop is before the whole size
     stops_before : (after : ℕ) (text : List ℕ) → IsStopOf after input text → after < size_of_all p most_rows nodes
@@ -120,12 +100,12 @@ module _ (input : List ℕ)
         omega (
           arith,
           stop.size,
-          some stop.same.p (input_is_sound input stop.same.bytes stop.same.p stop.same.found stop.same.nodes stop.same.input) stop.same.other_nodes stop.some,
-          one_size short bytes p found nodes stop.same.bytes stop.same.p stop.same.found stop.same.nodes is stop.same.input,
+          one.some stop.same.bytes stop.same.p stop.same.found stop.same.nodes stop.same.input stop.same.other_nodes stop.some,
+          one.size short bytes p found nodes stop.same.found stop.same.bytes stop.same.p stop.same.nodes is stop.same.input,
         )
 
     few : (text : List ℕ) → IsBookOf turns input text → KeepsTo turns (size_of_all p most_rows nodes)
-    few text book = subst (KeepsTo turns) (one_size short book.bytes book.p book.found book.nodes bytes p found nodes book.of_input is) book.keeps
+    few text book = subst (KeepsTo turns) (one.size short book.bytes book.p book.found book.nodes found bytes p nodes book.of_input is) book.keeps
 
     kept_turns : (turns : Option ℕ) (after number : ℕ) → turns ≡ Some after → KeepsTo turns number → number ≤ after
     kept_turns None after number is keeps = absurd (cc)
@@ -139,8 +119,8 @@ module _ (input : List ℕ)
     finishes keeps (ended.Stopped after) writes says =
         absurd (omega (arith, stops_before after says.1.0 says.1.1.1, kept_turns turns after (size_of_all p most_rows nodes) says.1.1.0 keeps))
     finishes keeps ended.WriteFault writes says = absurd (writes refl)
-    finishes keeps (ended.Problem fault) writes says = absurd (no_problem_fault bytes p found nodes fault is says.1)
-    finishes keeps (ended.Checkpoint fault) writes says = absurd (no_check_fault short bytes p found nodes fault is says.1)
+    finishes keeps (ended.Problem fault) writes says = absurd (one.no_problem_fault bytes p found nodes fault is says.1)
+    finishes keeps (ended.Checkpoint fault) writes says = absurd (one.no_check_fault short bytes p found nodes fault is says.1)
     finishes keeps ended.TooLong writes says = let long : 2 ^ 40 < length input = says in absurd (omega (arith, short))
     finishes keeps (ended.Words fault) writes says = absurd says
     finishes keeps ended.ReadFault writes says = absurd says
@@ -156,8 +136,8 @@ module _ (input : List ℕ)
         let one : other ≡ after = cc in
         inl (ap ended.Stopped one)
     stops after allowed less ended.WriteFault writes says = absurd (writes refl)
-    stops after allowed less (ended.Problem fault) writes says = absurd (no_problem_fault bytes p found nodes fault is says.1)
-    stops after allowed less (ended.Checkpoint fault) writes says = absurd (no_check_fault short bytes p found nodes fault is says.1)
+    stops after allowed less (ended.Problem fault) writes says = absurd (one.no_problem_fault bytes p found nodes fault is says.1)
+    stops after allowed less (ended.Checkpoint fault) writes says = absurd (one.no_check_fault short bytes p found nodes fault is says.1)
     stops after allowed less ended.TooLong writes says = let long : 2 ^ 40 < length input = says in absurd (omega (arith, short))
     stops after allowed less (ended.Words fault) writes says = absurd says
     stops after allowed less ended.ReadFault writes says = absurd says
@@ -171,16 +151,16 @@ module _ (input : List ℕ)
 
   not_both : (turns : Option ℕ) (text : List ℕ) (stopped : Option ℕ) (fault : ProblemFault) → IsReached turns input text stopped → IsNoProblem input fault → ⊥
   not_both turns text stopped fault reached wrong =
-      let (bytes, p, found, nodes, is) = reached_input turns text stopped reached in no_problem_fault bytes p found nodes fault is wrong
+      let (bytes, p, found, nodes, is) = reached_input turns text stopped reached in one.no_problem_fault bytes p found nodes fault is wrong
 
   not_either : length input ≤ 2 ^ 40 → (turns : Option ℕ) (text : List ℕ) (stopped : Option ℕ) (fault : CheckFault) → IsReached turns input text stopped → IsNoCheckpoint input fault → ⊥
   not_either short turns text stopped fault reached wrong =
-      let (bytes, p, found, nodes, is) = reached_input turns text stopped reached in no_check_fault short bytes p found nodes fault is wrong
+      let (bytes, p, found, nodes, is) = reached_input turns text stopped reached in one.no_check_fault short bytes p found nodes fault is wrong
 
   module _ (turns : Option ℕ) where
     no_problem : (fault : ProblemFault) (status : Status) → (length input ≤ 2 ^ 40) × IsNoProblem input fault → Says turns input status
         → (status ≡ ended.Problem fault) ⊎ (status ≡ ended.NoMemory)
-    no_problem fault (ended.Problem other) due says = inl (ap ended.Problem (one_problem_fault other fault says.1 due.1))
+    no_problem fault (ended.Problem other) due says = inl (ap ended.Problem (one.one_problem_fault other fault says.1 due.1))
     no_problem fault ended.NoMemory due says = inr refl
     no_problem fault (ended.Checkpoint other) due says = absurd (due.1.0 says.1.0)
     no_problem fault ended.Finished due says = absurd (not_both turns says.1.0 None fault says.1.1 due.1)
@@ -192,7 +172,7 @@ module _ (input : List ℕ)
 
     no_checkpoint : (fault : CheckFault) (status : Status) → (length input ≤ 2 ^ 40) × IsNoCheckpoint input fault → Says turns input status
         → (status ≡ ended.Checkpoint fault) ⊎ (status ≡ ended.NoMemory)
-    no_checkpoint fault (ended.Checkpoint other) due says = inl (ap ended.Checkpoint (one_check_fault other fault says.1 due.1))
+    no_checkpoint fault (ended.Checkpoint other) due says = inl (ap ended.Checkpoint (one.one_check_fault other fault says.1 due.1))
     no_checkpoint fault ended.NoMemory due says = inr refl
     no_checkpoint fault (ended.Problem other) due says = absurd (says.1.0 due.1.0)
     no_checkpoint fault ended.Finished due says = absurd (not_either due.0 turns says.1.0 None fault says.1.1 due.1)
@@ -224,3 +204,24 @@ module _ (input : List ℕ)
     refuses ended.NoMemory status is says = absurd is
     refuses (ended.Words fault) status is says = absurd is
     refuses ended.ReadFault status is says = absurd is
+
+-- how a search ends from a source that told its bytes, where no read failed
+module _ {S K : Type 0} (source : Reading S) (sink : Writing K) (turns : Option ℕ) (status : Status) (ends : EndsSearch source sink turns status)
+    (shows : (taken : List ℕ) → source.took source.old source.new taken → Consumes (source.left source.old) (source.left source.new) taken)
+    (input : List ℕ) (one : HasOneAnswer input) (told : source.left source.old ≡ Some input)
+    (reads : Rose (source.faults source.old) (source.faults source.new) → ⊥) where
+  said : Says turns input status
+  said = says source sink turns shows input told reads status ends
+
+  module _ (bytes : List ℕ) (p : ProblemParts) (found nodes : List (List ℕ)) (short : length input ≤ 2 ^ 40) (is : Input input bytes p found nodes)
+      (writes : Rose (sink.faults sink.old) (sink.faults sink.new) → ⊥) where
+    pub ends_finished : KeepsTo turns (size_of_all p most_rows nodes) → (status ≡ ended.Finished) ⊎ (status ≡ ended.NoMemory)
+    ends_finished keeps = finishes input one turns bytes p found nodes is short keeps status (no_write_fault source sink turns writes status ends) said
+
+    pub ends_stopped : (after : ℕ) → turns ≡ Some after → after < size_of_all p most_rows nodes
+        → (status ≡ ended.Stopped after) ⊎ (status ≡ ended.NoMemory)
+    ends_stopped after allowed less =
+        stops input one turns bytes p found nodes is short after allowed less status (no_write_fault source sink turns writes status ends) said
+
+  pub ends_refused : (due : Status) → IsDue input due → (status ≡ due) ⊎ (status ≡ ended.NoMemory)
+  ends_refused due is = refuses input one turns due status is said

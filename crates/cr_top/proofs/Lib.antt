@@ -2,6 +2,7 @@ pub mod Steps
 pub mod Going
 pub mod Stopping
 pub mod Wishing
+pub mod Stages
 pub mod Workers
 pub mod OneAnswer
 pub mod Completeness

@@ -6,11 +6,17 @@ use Rattle.cr_model.specs.ProblemFiles.{ProblemFile, FirstProblemFault}
 use Rattle.cr_model.specs.declared.file_fault.ProblemFault.{ProblemFault}
 use Rattle.cr_model.specs.Checkpoints.{CheckFile}
 use Rattle.cr_model.specs.Inputs.{Input}
+use Rattle.cr_model.specs.Sound.{IsSound}
 use Rattle.cr_store.specs.Progress.{Progress}
 use Rattle.cr_store.specs.Chains.{AreSame}
 use Rattle.cr_store.specs.Faults.{FirstCheckFault}
 use Rattle.cr_store.specs.declared.fault.CheckFault.{CheckFault}
 use Rattle.cr_top.specs.Texts.{IsNoProblem, IsNoCheckpoint}
+
+-- the problem of an input passes all checks
+pub is_sound : (input bytes : List ℕ) (p : ProblemParts) (found nodes : List (List ℕ)) → Input input bytes p found nodes → IsSound p
+is_sound input bytes p found nodes (inl is) = is.file.problem.sound
+is_sound input bytes p found nodes (inr is) = is.file.sound
 
 module _ (input : List ℕ) where
   long : length input ≤ 2 ^ 40 → length input < 2 ^ 63

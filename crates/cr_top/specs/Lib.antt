@@ -6,4 +6,7 @@ pub mod Made
 pub mod Runs
 pub mod Texts
 pub mod Starts
+pub mod Streams
 pub mod Endings
+pub mod Refused
+pub mod OneAnswer

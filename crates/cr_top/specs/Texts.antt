@@ -1,5 +1,5 @@
 -- The text that belongs to an input.
-use Rattle.std.specs.Prelude.{◌≡◌, ℕ, ◌+◌, ◌<◌, ◌↔◌, ⊤, List, length, Option, Some, None, Result, Ok, Err}
+use Rattle.std.specs.Prelude.{◌≡◌, ℕ, ◌+◌, ◌<◌, ◌↔◌, List, length, Option, Some, None}
 use Rattle.cr_model.specs.Problems.{ProblemParts}
 use Rattle.cr_model.specs.Sizes.{most_rows, size_of_all}
 use Rattle.cr_model.specs.Books.{IsBook, book_text}
@@ -14,8 +14,6 @@ use Rattle.cr_store.specs.Faults.{FirstCheckFault}
 use Rattle.cr_store.specs.declared.fault.CheckFault.{CheckFault}
 use Rattle.cr_top.specs.Runs.{KeepsTo}
 use Rattle.cr_top.specs.declared.outcome.Outcome.{Outcome}
-use Rattle.cr_top.specs.declared.status.Status.{Status}
-use Rattle.cr_top.specs.declared.status.Status.TheVariants as ended
 
 -- the text is that of the book of what the input covers, whose size keeps to the turns that are allowed
 pub record IsBookOf (turns : Option ℕ) (input text : List ℕ) : Type 0 where
@@ -82,16 +80,3 @@ IsTextAfter p bytes found jobs (Some after) text = IsStopText p bytes found jobs
 -- the pieces joined are the text that belongs to the input, and the search stopped after so many turns
 abbrev pub IsOutcomeOf : Option ℕ → List ℕ → Outcome → Type 0
 IsOutcomeOf turns input made = IsReached turns input (pieces_joined made.pieces.items) made.stopped
-
--- the text that was made belongs to the input, or the status says why there is none
-abbrev pub MakesText : Option ℕ → List ℕ → Result Outcome Status → Type 0
-MakesText turns input (Ok made) = IsOutcomeOf turns input made
-MakesText turns input (Err (ended.Problem fault)) = IsNoProblem input fault
-MakesText turns input (Err (ended.Checkpoint fault)) = IsNoCheckpoint input fault
-MakesText turns input (Err ended.NoMemory) = ⊤
-MakesText turns input (Err ended.Finished) = ⊥
-MakesText turns input (Err (ended.Words fault)) = ⊥
-MakesText turns input (Err (ended.Stopped after)) = ⊥
-MakesText turns input (Err ended.ReadFault) = ⊥
-MakesText turns input (Err ended.WriteFault) = ⊥
-MakesText turns input (Err ended.TooLong) = ⊥

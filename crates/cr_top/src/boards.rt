@@ -8,7 +8,7 @@ ghost use Rattle.cr_top.specs.Runs.{KeepsTo, BoardRan, RunsTo, board_turns, turn
 
 use cr_board::laws::{journals_tell_boards, partitions_follow_one_another};
 use cr_board::{Board, Entry, Opening};
-use cr_model::Calling;
+use cr_model::{Calling, Problem};
 use cr_model::laws::sizes_are_sums;
 use cr_node::{Explorer, Node};
 use cr_row::NoMemory;
@@ -30,10 +30,29 @@ pub struct Went {
     pub handed: Vec<u64>,
 }
 
-/// Goes on with a search by so many workers, on boards of at most so many turns each, until no job is left or the turns
-/// that are allowed are used. Each board is opened with the jobs alone: what was found stands aside, in one list, behind
-/// what had been found before, and is not sorted. Err where no memory is left.
-pub fn run<R: AllocGlobal + Threads + Wait + Sync, E: Explorer + Sync>(
+/// Goes on with a search by one worker, who waits for nobody, on boards of at most so many turns each, until no job is
+/// left or the turns that are allowed are used. Err where no memory is left.
+pub fn run_by_one<E: Explorer>(
+    alloc: Global,
+    explorer: &E,
+    left: Left,
+    turns: Option<u64>,
+    most: u64,
+) -> Result<Went, NoMemory>
+    requires some { 0 < most }
+    requires goes_on { CanGoOn (E.explores explorer.now) left.found.items (lists left.jobs.items) }
+    ensures { IfOk result (λ now. RunsTo (E.explores explorer.now) left.found.items (lists left.jobs.items) turns
+        now.left.found.items (lists now.left.jobs.items)) }
+{
+    let run = |opening: Opening| -> Result<Board, NoMemory>
+        requires { E.explores explorer.now ≡ opening.problem }
+        ensures { IfOk result (IsRun opening) }
+    { run_one(alloc, opening, explorer) };
+    run_boards(alloc, 1, explorer.problem(), left, turns, most, &run)
+}
+
+/// The same by so many workers, who may wait for one another.
+pub fn run_by<R: AllocGlobal + Threads + Wait + Sync, E: Explorer + Sync>(
     rt: &R,
     workers: u32,
     explorer: &E,
@@ -48,17 +67,45 @@ pub fn run<R: AllocGlobal + Threads + Wait + Sync, E: Explorer + Sync>(
     ensures { IfOk result (λ now. RunsTo (E.explores explorer.now) left.found.items (lists left.jobs.items) turns
         now.left.found.items (lists now.left.jobs.items)) }
 {
+    let run = |opening: Opening| -> Result<Board, NoMemory>
+        requires { E.explores explorer.now ≡ opening.problem }
+        ensures { IfOk result (IsRun opening) }
+    { run_opening(rt, opening, explorer) };
+    run_boards(rt.alloc(), workers, explorer.problem(), left, turns, most, &run)
+}
+
+/// Goes on with a search of a problem on boards for so many workers, each of which is run to its end by `run`, and has at
+/// most so many turns, until no job is left or the turns that are allowed are used. Each board is opened with the jobs
+/// alone: what was found stands aside, in one list, behind what had been found before, and is not sorted. Err where no
+/// memory is left.
+pub fn run_boards<F: Fn(Opening) -> Result<Board, NoMemory>>(
+    alloc: Global,
+    workers: u32,
+    problem: &Problem,
+    left: Left,
+    turns: Option<u64>,
+    most: u64,
+    run: &F,
+) -> Result<Went, NoMemory>
+    requires some { 0 < most }
+    requires goes_on { CanGoOn problem.now left.found.items (lists left.jobs.items) }
+    requires some_workers { 1 ≤ workers }
+    requires few_workers { workers ≤ 64 }
+    requires may_run { (opening : _) → problem.now ≡ opening.problem → F.pre run.now opening }
+    requires runs { (opening : _) (board : _) → F.post run.now opening board → IfOk board (IsRun opening) }
+    ensures { IfOk result (λ now. RunsTo problem.now left.found.items (lists left.jobs.items) turns
+        now.left.found.items (lists now.left.jobs.items)) }
+{
     partitions_follow_one_another();
     sizes_are_sums();
-    let problem = explorer.problem();
     let _ = problem.stage();
     let mut found = left.found;
     let mut jobs = left.jobs;
-    let mut handed = Vec::new(rt.alloc());
+    let mut handed = Vec::new(alloc);
     handed.push(found.len() as u64)?;
     let mut allowed = turns;
     while !is_over(&jobs, allowed) {
-        let ran = run_board(rt, workers, explorer, jobs, granted(allowed, most))?;
+        let ran = run_board(alloc, workers, problem, jobs, granted(allowed, most), run)?;
         put_behind(&mut found, ran.found)?;
         handed.extend_from_slice(&ran.handed)?;
         jobs = ran.jobs;
@@ -118,23 +165,25 @@ struct Ran {
 }
 
 // Opens a board of the jobs that are left and runs it until no job is left or so many turns are used.
-fn run_board<R: AllocGlobal + Threads + Wait + Sync, E: Explorer + Sync>(
-    rt: &R,
+fn run_board<F: Fn(Opening) -> Result<Board, NoMemory>>(
+    alloc: Global,
     workers: u32,
-    explorer: &E,
+    problem: &Problem,
     jobs: Vec<Vec<Node>>,
     turns: u64,
+    run: &F,
 ) -> Result<Ran, NoMemory>
-    requires goes_on { CanGoOn (E.explores explorer.now) [] (lists jobs.items) }
+    requires goes_on { CanGoOn problem.now [] (lists jobs.items) }
+    requires may_run { (opening : _) → problem.now ≡ opening.problem → F.pre run.now opening }
+    requires runs { (opening : _) (board : _) → F.post run.now opening board → IfOk board (IsRun opening) }
     requires some_workers { 1 ≤ workers }
     requires few_workers { workers ≤ 64 }
-    ensures { IfOk result (λ ran. BoardRan (E.explores explorer.now) (lists jobs.items) turns ran.found.items (lists ran.jobs.items) ran.used) }
+    ensures { IfOk result (λ ran. BoardRan problem.now (lists jobs.items) turns ran.found.items (lists ran.jobs.items) ran.used) }
 {
     journals_tell_boards();
-    let alloc = rt.alloc();
-    let problem = explorer.problem().copy(alloc)?;
-    let opening = Opening::new(problem, Vec::new(alloc), jobs, Some(turns), workers);
-    let board = run_opening(rt, opening, explorer)?;
+    let copy = problem.copy(alloc)?;
+    let opening = Opening::new(copy, Vec::new(alloc), jobs, Some(turns), workers);
+    let board = run(opening)?;
     let used = board.spent() as u64;
     let handed = touches_handed_in(alloc, board.journal())?;
     let parts = board.into_parts(alloc)?;

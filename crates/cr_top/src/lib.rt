@@ -2,6 +2,7 @@
 //! checkpoint.
 #![tactic(auto)]
 
+mod answers;
 mod boards;
 mod gate;
 pub mod laws;
@@ -9,6 +10,9 @@ mod making;
 mod notes;
 mod outcome;
 mod piece;
+mod preparing;
+mod refusal;
+mod search;
 mod searching;
 mod start;
 mod status;
@@ -17,5 +21,6 @@ mod writing;
 
 pub use gate::{Gate, OpenGate};
 pub use notes::write_note;
+pub use search::search_alone;
 pub use status::Status;
 pub use top::ringsearch;

@@ -12,7 +12,7 @@ ghost use Rattle.cr_store.specs.Written.{lists};
 ghost use Rattle.cr_top.specs.Runs.{RunsTo};
 ghost use Rattle.cr_top.specs.Made.{made_length, made_problem as problem_made_of, IsSummaryOf};
 
-use crate::boards::{BOARD_TURNS, run};
+use crate::boards::{BOARD_TURNS, run_by};
 use crate::start::all_of;
 use cr_book::laws::what_was_found_whole_is_the_book;
 use cr_book::{sort_found, summary_text};
@@ -88,7 +88,7 @@ fn left_by<R: AllocGlobal + Threads + Wait + Sync>(
     requires few_workers { workers ≤ 64 }
     ensures { IfOk result (λ now. RunsTo (searched search.now) left.found.items (lists left.jobs.items) None now.found.items (lists now.jobs.items)) }
 {
-    let went = run(rt, workers, search, left, None, BOARD_TURNS)?;
+    let went = run_by(rt, workers, search, left, None, BOARD_TURNS)?;
     Ok(went.left)
 }
 

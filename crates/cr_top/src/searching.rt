@@ -7,100 +7,23 @@ ghost use Rattle.cr_book.specs.Pieces.{pieces_joined};
 ghost use Rattle.cr_store.specs.Written.{lists};
 ghost use Rattle.cr_top.specs.Starts.{IsStart};
 ghost use Rattle.cr_top.specs.Runs.{IsLeft, RunsTo, StopsAfter};
-ghost use Rattle.cr_top.specs.Texts.{IsStopText, IsTextAfter, IsOutcomeOf, MakesText};
+ghost use Rattle.cr_top.specs.Texts.{IsStopText, IsTextAfter, IsOutcomeOf};
 
-use crate::Status;
-use crate::boards::{Went, run};
-use crate::gate::{Gate, Gated};
+use crate::boards::Went;
 use crate::outcome::Outcome;
-use crate::start::{Start, start_of};
 use cr_book::laws::what_was_found_whole_is_the_book;
 use cr_book::{BookPieces, book_pieces};
-use cr_explore::make_search;
 use cr_model::Problem;
 use cr_model::laws::sizes_are_sums;
 use cr_row::NoMemory;
 use cr_store::laws::each_touch_is_covered_once;
 use cr_store::{Left, left_in_order, write_parts};
 use std::alloc::Global;
-use std::sync::Wait;
 use std::thread::Threads;
 
-/// Searches what an input says, on boards of at most so many turns each, and makes the text that belongs to it: a checkpoint
-/// where the turns that are allowed are too few, and else the book. Or the status with the input's refusal.
-pub fn text_for<R: AllocGlobal + Threads + Wait + Sync, G: Gate + Sync>(
-    rt: &R,
-    workers: u32,
-    input: Vec<u8>,
-    turns: Option<u64>,
-    gate: &G,
-    most: u64,
-) -> Result<Outcome, Status>
-    requires some { 0 < most }
-    requires some_workers { 1 ≤ workers }
-    requires few_workers { workers ≤ 64 }
-    ensures { MakesText turns input.items result }
-{
-    let start = start_of(rt.alloc(), input)?;
-    match searched(rt, workers, start, turns, gate, most) {
-        Ok(outcome) => Ok(outcome),
-        Err(NoMemory) => Err(Status::NoMemory),
-    }
-}
-
-// Searches from there.
-fn searched<R: AllocGlobal + Threads + Wait + Sync, G: Gate + Sync>(
-    rt: &R,
-    workers: u32,
-    start: Start,
-    turns: Option<u64>,
-    gate: &G,
-    most: u64,
-) -> Result<Outcome, NoMemory>
-    requires file { ProblemFile start.bytes.items start.problem }
-    requires goes_on { CanGoOn start.problem start.left.found.items (lists start.left.jobs.items) }
-    requires some { 0 < most }
-    requires some_workers { 1 ≤ workers }
-    requires few_workers { workers ≤ 64 }
-    ensures { (input : List ℕ) → IsStart input start.bytes.items start.problem start.left.found.items (lists start.left.jobs.items)
-        → IfOk result (IsOutcomeOf turns input) }
-{
-    let Start {
-        bytes,
-        problem,
-        left,
-    } = start;
-    let went = run_behind(rt, workers, &problem, left, turns, gate, most)?;
-    written(rt, workers, &problem, &bytes, went, turns)
-}
-
-// Goes on with the search of a problem, by an explorer that enters the gate. What is found is not sorted.
-fn run_behind<R: AllocGlobal + Threads + Wait + Sync, G: Gate + Sync>(
-    rt: &R,
-    workers: u32,
-    problem: &Problem,
-    left: Left,
-    turns: Option<u64>,
-    gate: &G,
-    most: u64,
-) -> Result<Went, NoMemory>
-    requires goes_on { CanGoOn problem.now left.found.items (lists left.jobs.items) }
-    requires some { 0 < most }
-    requires some_workers { 1 ≤ workers }
-    requires few_workers { workers ≤ 64 }
-    ensures { IfOk result (λ now. RunsTo problem.now left.found.items (lists left.jobs.items) turns
-        now.left.found.items (lists now.left.jobs.items)) }
-{
-    let search = make_search(rt, rt.alloc(), problem)?;
-    let gated = Gated {
-        explorer: &search,
-        gate,
-    };
-    run(rt, workers, &gated, left, turns, most)
-}
-
-// The text for what is left after the turns that are allowed.
-fn written<R: AllocGlobal + Threads + Sync>(
+/// The text that belongs to an input whose search went on until no job was left or the turns that are allowed were used:
+/// a checkpoint where some job is left, and else the book. Err where no memory is left.
+pub fn outcome_of<R: AllocGlobal + Threads + Sync>(
     rt: &R,
     workers: u32,
     problem: &Problem,

@@ -4,9 +4,9 @@ ghost use Rattle.std.specs.Prelude.{◌≡◌, ℕ, [], ◌∷◌, IfOk};
 ghost use Rattle.cr_model.specs.ProblemFiles.{ProblemFile};
 ghost use Rattle.cr_model.specs.Checkpoints.{CanGoOn, IsCheckpoint};
 ghost use Rattle.cr_store.specs.Written.{lists};
-ghost use Rattle.cr_top.specs.Starts.{StartsFrom};
+ghost use Rattle.cr_top.specs.Refused.{StartsFrom};
 
-use crate::Status;
+use crate::refusal::Refusal;
 use cr_model::{Problem, ProblemFault};
 use cr_node::Node;
 use cr_node::laws::work_goes_on;
@@ -23,8 +23,8 @@ pub struct Start {
     pub left: Left,
 }
 
-/// What an input says, or the status with its refusal.
-pub fn start_of(alloc: Global, input: Vec<u8>) -> Result<Start, Status>
+/// What an input says, or why it is none.
+pub fn start_of(alloc: Global, input: Vec<u8>) -> Result<Start, Refusal>
     ensures { StartsFrom input.items result }
 {
     if input.starts_with(b"ringsearch checkpoint ") {
@@ -35,7 +35,7 @@ pub fn start_of(alloc: Global, input: Vec<u8>) -> Result<Start, Status>
 }
 
 // What a checkpoint says.
-fn resumed(alloc: Global, input: &[u8]) -> Result<Start, Status>
+fn resumed(alloc: Global, input: &[u8]) -> Result<Start, Refusal>
     requires { IsCheckpoint input.now }
     ensures { StartsFrom input.now result }
 {
@@ -48,37 +48,35 @@ fn resumed(alloc: Global, input: &[u8]) -> Result<Start, Status>
                 jobs: checkpoint.jobs,
             },
         }),
-        Err(CheckFault::NoMemory) => Err(Status::NoMemory),
-        Err(fault) => Err(Status::Checkpoint(fault)),
+        Err(CheckFault::NoMemory) => Err(Refusal::NoMemory),
+        Err(fault) => Err(Refusal::Checkpoint(fault)),
     }
 }
 
 // What a problem's file says.
-fn opened(alloc: Global, input: Vec<u8>) -> Result<Start, Status>
+fn opened(alloc: Global, input: Vec<u8>) -> Result<Start, Refusal>
     requires { IsCheckpoint input.items → ⊥ }
     ensures { StartsFrom input.items result }
 {
     match read_problem(alloc, &input) {
         Ok(problem) => begun(alloc, input, problem),
-        Err(ProblemFault::NoMemory) => Err(Status::NoMemory),
-        Err(fault) => Err(Status::Problem(fault)),
+        Err(ProblemFault::NoMemory) => Err(Refusal::NoMemory),
+        Err(fault) => Err(Refusal::Problem(fault)),
     }
 }
 
 // A search that has not begun.
-fn begun(alloc: Global, input: Vec<u8>, problem: Problem) -> Result<Start, Status>
+fn begun(alloc: Global, input: Vec<u8>, problem: Problem) -> Result<Start, Refusal>
     requires begins { IsCheckpoint input.items → ⊥ }
     requires file { ProblemFile input.items problem }
     ensures { StartsFrom input.items result }
 {
-    match all_of(alloc, &problem) {
-        Ok(left) => Ok(Start {
-            bytes: input,
-            problem,
-            left,
-        }),
-        Err(NoMemory) => Err(Status::NoMemory),
-    }
+    let left = all_of(alloc, &problem)?;
+    Ok(Start {
+        bytes: input,
+        problem,
+        left,
+    })
 }
 
 /// What is left of a search that has not begun: nothing is found, and the only job is the root. Err where no memory is

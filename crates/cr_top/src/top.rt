@@ -10,31 +10,20 @@ ghost use Rattle.cr_words.specs.Readings.{IsAccepted, IsFaultOf};
 ghost use Rattle.cr_top.specs.Runs.{KeepsTo};
 ghost use Rattle.cr_top.specs.Lines.{note_line};
 ghost use Rattle.cr_top.specs.Noted.{AppendsFront};
-ghost use Rattle.cr_top.specs.Texts.{IsTextOf, IsOutcomeOf};
-ghost use Rattle.cr_top.specs.Made.{IsSummaryOf};
-ghost use Rattle.cr_top.specs.Endings.{AsksSearch, AsksMake, ReadsInput, EndsSearch, EndsMake, EndsWish, Ends, IsDue, status_reached};
+ghost use Rattle.cr_top.specs.Endings.{AsksSearch, AsksMake, EndsMake, EndsWish, Ends, IsDue, status_of};
 
 use crate::Status;
-use crate::boards::BOARD_TURNS;
+use crate::answers::inputs_have_one_answer;
 use crate::gate::Gate;
 use crate::making::summary_for;
 use crate::notes::write_note;
-use crate::outcome::Outcome;
-use crate::searching::text_for;
-use crate::writing::write_beside;
-use cr_io::{ReadEnd, Sink, Source, WriteFault, read_all, write_whole};
-use cr_model::laws::sizes_are_sums;
-use cr_read::bytes_have_one_answer as one_answer_of_a_file;
-use cr_row::NoMemory;
-use cr_store::laws::{an_input_has_its_parts_alone, bytes_have_one_answer};
+use crate::refusal::{Refusal, status_for};
+use crate::search::{search_alone, searched_together};
+use cr_io::{Sink, Source, write_whole};
 use cr_words::laws::{words_are_accepted_or_have_a_fault, words_read_as_one_wish};
 use cr_words::{Mode, Wish, WordsFault, read_words};
-use std::alloc::Global;
 use std::sync::Wait;
 use std::thread::Threads;
-
-// The most bytes that an input may have, 2^40.
-const MOST_BYTES: u64 = 1_099_511_627_776;
 
 /// Does all that the program does: reads an input from the source, searches it, and writes its book or, after the turns
 /// that are allowed, a checkpoint to the sink; or makes a problem of a number and writes its summary.
@@ -48,8 +37,8 @@ pub fn ringsearch<
     N: Sink,
     G: Gate + Sync,
 >(rt: &R, words: &[String], source: &mut S, sink: &mut K, notes: &mut N, gate: &G) -> Status
-    ensures ends { Ends S.took S.left S.faults source.old source.new
-        K.grew K.faults sink.old sink.new (texts_of words.now) result }
+    ensures ends { Ends (record { took = S.took; left = S.left; faults = S.faults; old = source.old; new = source.new })
+        (record { grew = K.grew; faults = K.faults; old = sink.old; new = sink.new }) (texts_of words.now) result }
     ensures refuses_words { (fault : WordsFault) → IsFaultOf (texts_of words.now) fault →
         (result ≡ Status.Words fault) ⊎ (result ≡ Status.NoMemory) }
     ensures complete { (turns : Option ℕ) → AsksSearch (texts_of words.now) turns →
@@ -83,10 +72,7 @@ pub fn ringsearch<
 {
     words_read_as_one_wish();
     words_are_accepted_or_have_a_fault();
-    one_answer_of_a_file();
-    bytes_have_one_answer();
-    an_input_has_its_parts_alone();
-    sizes_are_sums();
+    inputs_have_one_answer();
     let status = ended(rt, words, source, sink, gate);
     write_note(notes, &status);
     status
@@ -100,19 +86,20 @@ fn ended<R: AllocGlobal + Threads + Wait + Sync, S: Source, K: Sink, G: Gate + S
     sink: &mut K,
     gate: &G,
 ) -> Status
-    ensures ends { Ends S.took S.left S.faults source.old source.new
-        K.grew K.faults sink.old sink.new (texts_of words.now) result }
+    ensures ends { Ends (record { took = S.took; left = S.left; faults = S.faults; old = source.old; new = source.new })
+        (record { grew = K.grew; faults = K.faults; old = sink.old; new = sink.new }) (texts_of words.now) result }
     ensures source_later { S.faults source.old ≤ S.faults source.new }
     ensures sink_later { K.faults sink.old ≤ K.faults sink.new }
 {
+    words_are_accepted_or_have_a_fault();
     match read_words(rt.alloc(), words) {
         Ok(wish) => carried_out(rt, wish, source, sink, gate),
-        Err(WordsFault::NoMemory) => Status::NoMemory,
-        Err(fault) => Status::Words(fault),
+        Err(WordsFault::NoMemory) => status_for(Err(Refusal::NoMemory)),
+        Err(fault) => status_for(Err(Refusal::Words(fault))),
     }
 }
 
-// Does what is wished for.
+// Does what is wished for. One worker waits for nobody.
 fn carried_out<R: AllocGlobal + Threads + Wait + Sync, S: Source, K: Sink, G: Gate + Sync>(
     rt: &R,
     wish: Wish,
@@ -122,92 +109,38 @@ fn carried_out<R: AllocGlobal + Threads + Wait + Sync, S: Source, K: Sink, G: Ga
 ) -> Status
     requires some_workers { 1 ≤ wish.workers }
     requires few_workers { wish.workers ≤ 64 }
-    ensures ends { EndsWish S.took S.left S.faults source.old source.new
-        K.grew K.faults sink.old sink.new wish.turns wish.mode result }
+    ensures ends { EndsWish (record { took = S.took; left = S.left; faults = S.faults; old = source.old; new = source.new })
+        (record { grew = K.grew; faults = K.faults; old = sink.old; new = sink.new }) wish.mode wish.turns result }
     ensures source_later { S.faults source.old ≤ S.faults source.new }
     ensures sink_later { K.faults sink.old ≤ K.faults sink.new }
 {
     match wish.mode {
-        Mode::Search => search(rt, wish.workers, wish.turns, source, sink, gate),
-        Mode::Make(number) => make(rt, wish.workers, number, sink),
-    }
-}
-
-// Searches the input.
-fn search<R: AllocGlobal + Threads + Wait + Sync, S: Source, K: Sink, G: Gate + Sync>(
-    rt: &R,
-    workers: u32,
-    turns: Option<u64>,
-    source: &mut S,
-    sink: &mut K,
-    gate: &G,
-) -> Status
-    requires some_workers { 1 ≤ workers }
-    requires few_workers { workers ≤ 64 }
-    ensures ends { EndsSearch S.took S.left S.faults source.old source.new
-        K.grew K.faults sink.old sink.new turns result }
-    ensures source_later { S.faults source.old ≤ S.faults source.new }
-    ensures sink_later { K.faults sink.old ≤ K.faults sink.new }
-{
-    let input = match input_of(rt.alloc(), source) {
-        Ok(input) => input,
-        Err(status) => return status,
-    };
-    match text_for(rt, workers, input, turns, gate, BOARD_TURNS) {
-        Ok(
-            Outcome {
-                pieces,
-                stopped,
-                spent,
-            },
-        ) => match write_beside(rt, workers, sink, pieces, spent) {
-            Ok(()) => reached(stopped),
-            Err(WriteFault) => Status::WriteFault,
-        },
-        Err(status) => status,
-    }
-}
-
-// The status of a search whose text was written whole.
-fn reached(stopped: Option<u64>) -> Status
-    ensures { result ≡ status_reached stopped }
-{
-    match stopped {
-        Some(turns) => Status::Stopped(turns),
-        None => Status::Finished,
-    }
-}
-
-// All that is left in the source.
-fn input_of<S: Source>(alloc: Global, source: &mut S) -> Result<Vec<u8>, Status>
-    ensures reads { ReadsInput S.took S.left S.faults source.old source.new result }
-    ensures later { S.faults source.old ≤ S.faults source.new }
-{
-    match read_all(alloc, source, MOST_BYTES) {
-        Ok(input) => Ok(input),
-        Err(ReadEnd::ReadFault) => Err(Status::ReadFault),
-        Err(ReadEnd::TooLong) => Err(Status::TooLong),
-        Err(ReadEnd::NoMemory) => Err(Status::NoMemory),
+        Mode::Search if wish.workers == 1 => search_alone(rt, wish.turns, source, sink, gate),
+        Mode::Search => status_for(searched_together(
+            rt,
+            wish.workers,
+            wish.turns,
+            source,
+            sink,
+            gate,
+        )),
+        Mode::Make(number) => status_for(made(rt, wish.workers, number, sink)),
     }
 }
 
 // Makes the problem of a number, searches it and writes its summary.
-fn make<R: AllocGlobal + Threads + Wait + Sync, K: Sink>(
+fn made<R: AllocGlobal + Threads + Wait + Sync, K: Sink>(
     rt: &R,
     workers: u32,
     number: u32,
     sink: &mut K,
-) -> Status
+) -> Result<Option<u64>, Refusal>
     requires some_workers { 1 ≤ workers }
     requires few_workers { workers ≤ 64 }
-    ensures ends { EndsMake K.grew K.faults sink.old sink.new number result }
+    ensures ends { EndsMake (record { grew = K.grew; faults = K.faults; old = sink.old; new = sink.new }) number (status_of result) }
     ensures later { K.faults sink.old ≤ K.faults sink.new }
 {
-    match summary_for(rt, workers, number) {
-        Ok(text) => match write_whole(sink, &text) {
-            Ok(()) => Status::Finished,
-            Err(WriteFault) => Status::WriteFault,
-        },
-        Err(NoMemory) => Status::NoMemory,
-    }
+    let text = summary_for(rt, workers, number)?;
+    write_whole(sink, &text)?;
+    Ok(None)
 }

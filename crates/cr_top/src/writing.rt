@@ -1,6 +1,6 @@
 //! Writing a text while what it was made of is let go.
 
-ghost use Rattle.std.specs.Prelude.{◌≤◌, OnOk, OnErr};
+ghost use Rattle.std.specs.Prelude.{◌≡◌, ◌≤◌, OnOk, OnErr};
 ghost use Rattle.cr_io.specs.Causes.{Rose};
 ghost use Rattle.cr_io.specs.Grown.{GrowsByFront, joined};
 
@@ -24,6 +24,7 @@ pub fn write_beside<R: Threads, K: Sink>(
     ensures front { OnErr result (GrowsByFront K.grew sink.old sink.new (joined pieces.items)) }
     ensures fault { OnErr result (Rose (K.faults sink.old) (K.faults sink.new)) }
     ensures later { K.faults sink.old ≤ K.faults sink.new }
+    ensures same { OnOk result (K.faults sink.new ≡ K.faults sink.old) }
 {
     if workers == 1 || spent.len() < FEW {
         return write_pieces(sink, &pieces);

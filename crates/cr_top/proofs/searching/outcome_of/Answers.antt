@@ -1,6 +1,6 @@
 use Rattle.cr_book.specs.Pieces.{pieces_joined}
 use Rattle.cr_top.proofs.Stopping.{reached}
-use Rattle.cr_top.proofs.searching.written.Goals as goal
+use Rattle.cr_top.proofs.searching.outcome_of.Goals as goal
 
 pub returns : goal.returns
 returns g c = λ input found jobs start run. reached input c.args.bytes.now c.args.problem.now found jobs c.args.turns

@@ -1,0 +1,47 @@
+-- The parts of a search, and why each of them was not done.
+use Rattle.std.specs.Prelude.{◌≡◌, ℕ, ⊤, List, Option, Result, Ok, Err, Vec}
+use Rattle.std.specs.declared.alloc.Global.{Global}
+use Rattle.cr_io.specs.declared.reading.ReadEnd.{ReadEnd}
+use Rattle.cr_io.specs.declared.reading.ReadEnd.TheVariants as end
+use Rattle.cr_explore.specs.Searches.{searched}
+use Rattle.cr_store.specs.Written.{lists}
+use Rattle.cr_top.specs.Streams.{Reading, Writing, WasRead, WasWritten, WasCutOff}
+use Rattle.cr_top.specs.Texts.{IsReached, IsTextOf, IsNoProblem, IsNoCheckpoint}
+use Rattle.cr_top.specs.Starts.{IsStart}
+use Rattle.cr_top.specs.Endings.{GetsNoInput, status_of}
+use Rattle.cr_top.specs.declared.start.Start.{Start}
+use Rattle.cr_top.specs.declared.refusal.Refusal.{Refusal}
+use Rattle.cr_top.specs.declared.refusal.Refusal.TheVariants as refusal
+use Rattle.cr_top.specs.declared.preparing.Prepared.{Prepared}
+
+-- the refusal of a source that was not read whole
+abbrev pub refusal_of : ReadEnd → Refusal
+refusal_of end.ReadFault = refusal.ReadFault
+refusal_of end.TooLong = refusal.TooLong
+refusal_of end.NoMemory = refusal.NoMemory
+
+-- the input was read whole, or it was not for this reason
+abbrev pub ReadsInput : {S : Type 0} → Reading S → Result (Vec ℕ Global) Refusal → Type 0
+ReadsInput source (Ok input) = WasRead source input.items
+ReadsInput source (Err why) = GetsNoInput source (status_of (Err why))
+
+-- what an input says, or why it is none
+abbrev pub StartsFrom : List ℕ → Result Start Refusal → Type 0
+StartsFrom input (Ok start) = IsStart input start.bytes.items start.problem start.left.found.items (lists start.left.jobs.items)
+StartsFrom input (Err (refusal.Problem fault)) = IsNoProblem input fault
+StartsFrom input (Err (refusal.Checkpoint fault)) = IsNoCheckpoint input fault
+StartsFrom input (Err refusal.NoMemory) = ⊤
+StartsFrom input (Err why) = ⊥
+
+-- the search of an input that was read, or why there is none
+abbrev pub Prepares : {S : Type 0} → Reading S → Result Prepared Refusal → Type 0
+Prepares source (Ok prepared) = (input : List ℕ) × WasRead source input × StartsFrom input (Ok prepared.start)
+    × (searched prepared.search ≡ prepared.start.problem)
+Prepares source (Err why) = GetsNoInput source (status_of (Err why))
+
+-- the text that belongs to an input was written, after so many turns where the search stopped, or it was not for this reason
+abbrev pub WritesSearch : {K : Type 0} → Writing K → Option ℕ → List ℕ → Result (Option ℕ) Refusal → Type 0
+WritesSearch sink turns input (Ok stopped) = (text : List ℕ) × IsReached turns input text stopped × WasWritten sink text
+WritesSearch sink turns input (Err refusal.WriteFault) = (text : List ℕ) × IsTextOf turns input text × WasCutOff sink text
+WritesSearch sink turns input (Err refusal.NoMemory) = sink.new ≡ sink.old
+WritesSearch sink turns input (Err why) = ⊥
