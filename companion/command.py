@@ -4,13 +4,14 @@ import argparse
 import os
 import sys
 
-from companion import problem
+from companion import check, problem
 from companion.listing import add_arguments as add_listing
 from companion.listing import run as run_listing
 from companion.mistakes import Mistake
 
 COMMANDS = {
     "problem": ("write a problem file of methods by name", problem.add_arguments, problem.run),
+    "check": ("say what is wrong with a problem file, and what is surely not meant", check.add_arguments, check.run),
     "methods": ("list the methods of the library", add_listing, run_listing),
 }
 

@@ -212,7 +212,7 @@ def one_byte(text: str) -> str:
     return text if len(text.encode()) == 1 else "\0"
 
 
-class _Values:
+class Values:
     """The values of a file whose keys are right, with the changes of its notations."""
 
     def __init__(self, root: dict[str, Any]):
@@ -236,17 +236,19 @@ class _Values:
         return len(self.leads[method]) - self.over(call) + len(self.tunes[call])
 
 
-def check_values(root: dict[str, Any]) -> None:
-    values = _Values(root)
+def check_values(root: dict[str, Any]) -> Values:
+    """The values, where none of them is wrong."""
+    values = Values(root)
     check_letters(values)
     check_notations(values)
     check_calls(values)
     check_steps(values)
     check_query(values)
     check_limits(values)
+    return values
 
 
-def check_letters(values: _Values) -> None:
+def check_letters(values: Values) -> None:
     if not 3 <= values.stage <= 16:
         words = f"`stage` is {values.stage}, and there may be 3 to 16 bells"
         raise Fault("Stage", str(values.stage), words, ("", 0, "stage"))
@@ -259,7 +261,7 @@ def check_letters(values: _Values) -> None:
             raise Fault("Letter", str(index), f"the letter {letter} is an earlier method's too", at)
 
 
-def check_notations(values: _Values) -> None:
+def check_notations(values: Values) -> None:
     for table, items, changes in (("method", values.methods, values.leads), ("call", values.calls, values.tunes)):
         for index, item in enumerate(items):
             try:
@@ -270,7 +272,7 @@ def check_notations(values: _Values) -> None:
                 raise Fault("Notation", details, words, (table, index, "notation"), notation=fault.name) from None
 
 
-def check_calls(values: _Values) -> None:
+def check_calls(values: Values) -> None:
     for index, call in enumerate(values.calls):
         if not 0 <= call.get("over", 0) <= MOST_CHANGES:
             raise Fault("Over", str(index), f"`over` is {call['over']}, and may be 0 to 128", ("call", index, "over"))
@@ -288,7 +290,7 @@ def check_calls(values: _Values) -> None:
             check_apart(values, first, second)
 
 
-def check_call_length(values: _Values, call: int, method: int) -> None:
+def check_call_length(values: Values, call: int, method: int) -> None:
     lead, over = len(values.leads[method]), values.over(call)
     mark, letter = values.marks[call], values.letters[method]
     at = ("call", call, "over" if "over" in values.calls[call] else "notation")
@@ -300,7 +302,7 @@ def check_call_length(values: _Values, call: int, method: int) -> None:
         raise Fault("CallLength", f"{call} {method}", words, at)
 
 
-def check_apart(values: _Values, first: int, second: int) -> None:
+def check_apart(values: Values, first: int, second: int) -> None:
     if values.marks[first] != values.marks[second]:
         return
     for method, letter in enumerate(values.letters):
@@ -309,7 +311,7 @@ def check_apart(values: _Values, first: int, second: int) -> None:
             raise Fault("Clash", f"{first} {second}", words, ("call", second, "mark"))
 
 
-def steps_of(values: _Values) -> list[tuple[int, int | None]]:
+def steps_of(values: Values) -> list[tuple[int, int | None]]:
     """Each method's plain lead, and its lead with each call that is made in it, by their indices."""
     steps: list[tuple[int, int | None]] = []
     for method in range(len(values.methods)):
@@ -318,19 +320,19 @@ def steps_of(values: _Values) -> list[tuple[int, int | None]]:
     return steps
 
 
-def step_length(values: _Values, step: tuple[int, int | None]) -> int:
+def step_length(values: Values, step: tuple[int, int | None]) -> int:
     method, call = step
     return len(values.leads[method]) if call is None else values.called_length(call, method)
 
 
-def check_steps(values: _Values) -> None:
+def check_steps(values: Values) -> None:
     steps = len(steps_of(values))
     if steps > MOST_STEPS:
         words = f"methods and their calls make {steps} different leads, and 24 are the most"
         raise Fault("Steps", str(steps), words, ("method", 0, ""))
 
 
-def check_query(values: _Values) -> None:
+def check_query(values: Values) -> None:
     query = values.root["query"]
     least, most, parts = query["min"], query["max"], query.get("parts", 1)
     if not 1 <= least <= most <= MOST_NUMBER:
@@ -357,7 +359,7 @@ def wrong_bounds(table: dict[str, Any]) -> str | None:
     return f"from {least} to {most} is no range within 0 to 12000"
 
 
-def check_limits(values: _Values) -> None:
+def check_limits(values: Values) -> None:
     for index, count in enumerate(values.root.get("count", [])):
         mark = one_byte(count["mark"])
         why = None if mark == "p" or mark in values.marks else f"no lead has the mark “{count['mark']}”"
@@ -429,14 +431,20 @@ def _symbol_hint(symbol: str) -> str:
     return ""
 
 
+def read_values(data: bytes) -> Values:
+    """The values of a problem file; its first fault is raised."""
+    try:
+        root = read_toml(data)
+    except NotToml as why:
+        raise Fault("NotToml", "", why.words, None, why.line, why.column) from None
+    check_keys(root)
+    return check_values(root)
+
+
 def first_fault(data: bytes) -> Fault | None:
     """The first fault of a problem file, or None where the program takes it."""
     try:
-        root = read_toml(data)
-        check_keys(root)
-        check_values(root)
-    except NotToml as why:
-        return Fault("NotToml", "", why.words, None, why.line, why.column)
+        read_values(data)
     except Fault as fault:
         return fault
     return None
