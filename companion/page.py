@@ -36,7 +36,7 @@ def page_text(shower: Shower, touch: Touch, leads: list[Lead], bells: list[int])
         leads="\n".join(figures_of(shower, leads, bells)),
         width=round(wide * 1.15),
         narrow=round(wide * 0.97),
-        printed=round(wide * 0.195, 1),
+        printed=round(wide * 0.22, 1),
     )
 
 
