@@ -1,8 +1,7 @@
 """What a lead is: where its treble goes, whether it dodges, and the places made as it goes."""
 
-from companion.bells import Change, Row, order_of, ring, rounds, times
+from companion.bells import SYMBOLS, Change, Row, order_of, ring, rounds, times
 from companion.notation import read_notation
-from companion.bells import SYMBOLS
 
 
 def lead_head(changes: list[Change], stage: int) -> Row:
@@ -58,14 +57,11 @@ def class_of(changes: list[Change], stage: int) -> str:
     path = path_of(1, changes, stage)
     if path[-1] != 1:
         return "Principle"
-    if path[:-1] == plain_path(stage)[:len(changes)] and len(changes) == 2 * stage:
+    if path[:-1] == plain_path(stage):
         return "Plain"
-    if stage % 2 == 0 and path[:-1] == dodging_path(stage)[:len(changes)] and len(changes) == 4 * stage:
+    if stage % 2 == 0 and path[:-1] == dodging_path(stage):
         return _dodging_class(changes, stage)
-    top = max(path)
-    if path[:-1] == plain_path(top):
-        return "Little"
-    return "Other"
+    return "Little" if path[:-1] == plain_path(max(path)) else "Other"
 
 
 def _dodging_class(changes: list[Change], stage: int) -> str:
@@ -79,8 +75,8 @@ def plain_bob_head(stage: int) -> Row:
     """The first lead head of Plain Bob."""
     last = SYMBOLS[stage - 1]
     if stage % 2 == 0:
-        return lead_head(read_notation("x1" + last + f"x1{last}" * (stage // 2 - 1) + ",12", stage), stage)
-    return lead_head(read_notation(".".join([last, "1"] * (stage // 2)) + f".{last},12{last}", stage), stage)
+        return lead_head(read_notation(f"x1{last}" * (stage // 2) + ",12", stage), stage)
+    return lead_head(read_notation(f"{last}.1." * (stage // 2) + f"{last},12{last}", stage), stage)
 
 
 def plain_bob_power(head: Row) -> int | None:

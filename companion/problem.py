@@ -17,7 +17,7 @@ USUAL = "usual"
 
 
 def add_arguments(parser: argparse.ArgumentParser) -> None:
-    parser.add_argument("titles", nargs="+", metavar="METHOD", help="a method or a set, by its title; several are spliced")
+    parser.add_argument("titles", nargs="*", metavar="METHOD", help="a method or a set, by its title; several are spliced")
     parser.add_argument("--length", required=True, metavar="N[-N]", help="the length of a touch, or from and to")
     parser.add_argument("--bobs", nargs="?", const=USUAL, metavar="NOTATION", help="bobs; the usual ones without a notation")
     parser.add_argument("--singles", nargs="?", const=USUAL, metavar="NOTATION", help="singles, in the same way")
@@ -44,6 +44,8 @@ def run(args: argparse.Namespace) -> int:
 
 def problem_of(args: argparse.Namespace) -> Problem:
     """The problem that the options ask for, which the program takes."""
+    if not args.titles:
+        raise Mistake("no method is named: titles stand before the options, since --bobs takes the word after it.")
     chosen = [method for title in args.titles for method in library.find(title)]
     stage = common_stage(chosen)
     least, most = length_of(args.length)

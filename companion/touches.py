@@ -119,7 +119,7 @@ def call_name(mark: str, position: str) -> str:
 
 @dataclass(frozen=True)
 class Call:
-    """A call: its mark, its position or its number, and the change of the lead after which it stands, from 1."""
+    """A call: its mark, and its position, or its number where the treble works like the other bells."""
 
     mark: str
     position: str

@@ -71,6 +71,7 @@ class Refused(unittest.TestCase):
         minor = ["Plain Bob Minor", "--length", "1-72"]
         self.refused(["Cambrige Minor", "--length", "1"], "no method")
         self.refused(["Plain Bob Minor"], "--length")
+        self.refused(["--length", "60", "--bobs", "Plain Bob Minor"], "before the options")
         self.refused(["Plain Bob Minor", "--length", "long"], "“long”")
         self.refused(["Plain Bob Minor", "--length", "72-1"], "72 to 1")
         self.refused([*minor, "--at-most", "b9"], "9b")
