@@ -106,13 +106,19 @@ def show_table(shower: Shower, touches: list[Touch], args: argparse.Namespace) -
     key = sort_key(args.sort.split(","), names)
     rows = sorted(map(shower.shown, touches), key=key)
     shown = rows[: args.first] if args.first > 0 else rows
-    head = ["no", "length", "calls", *names, "courses", "calling"]
-    lines = [[str(one.touch.number), str(one.touch.length), str(one.calls), *map(str, one.music), str(one.courses), one.calling]
-             for one in shown]
+    spliced = len(shower.values.methods) > 1 and not shower.callings.six_marks
+    head = ["no", "length", "calls", *names, "courses", "calling", *(["in the book"] if spliced else [])]
+    lines = [table_line(one, spliced) for one in shown]
     table.show(head, lines, sys.stdout)
     rest = len(rows) - len(shown)
     if rest:
         print(f"{rest} more; --first 0 shows all {len(rows)}.")
+
+
+def table_line(one: Shown, spliced: bool) -> list[str]:
+    """A line of the table; of spliced methods it has the calling as it stands in the book, which tells the methods."""
+    numbers = [one.touch.number, one.touch.length, one.calls, *one.music, one.courses]
+    return [*map(str, numbers), one.calling, *([one.touch.calling] if spliced else [])]
 
 
 def sort_key(asked: list[str], names: list[str]):

@@ -7,18 +7,23 @@ by plain_search, and must be true and what was asked for.
 
 import os
 import re
+import signal
+import subprocess
 import tempfile
+import time
 import tomllib
 import unittest
 from pathlib import Path
 
 from companion.tests import plain_search
-from companion.tests.running import TOP, compose_in_shell, need_program, search
+from companion.tests.running import PROGRAM, TOP, compose_in_shell, need_program, search
 
 COMPOSING = TOP / "docs/composing.md"
+RUNNING = TOP / "docs/running.md"
+LONG = TOP / "bench/major-640.toml"
 
 # Recipes whose books plain_search finds in a few seconds.
-CHEAP = ("grandsire.toml", "short.toml", "half.toml", "kent.toml", "queens.toml", "two.toml")
+CHEAP = ("first.toml", "grandsire.toml", "kent.toml", "half.toml", "short.toml", "spliced.toml")
 
 
 def recipes():
@@ -94,6 +99,41 @@ class Recipes(unittest.TestCase):
         hold_touches(self, problem, lines)
         if file.name in CHEAP or os.environ.get("SLOW"):
             self.assertEqual(plain_search.book(problem), lines)
+
+
+class Running(unittest.TestCase):
+    """What docs/running.md says of long searches."""
+
+    def setUp(self):
+        need_program()
+        folder = tempfile.TemporaryDirectory()
+        self.addCleanup(folder.cleanup)
+        self.folder = Path(folder.name)
+
+    def test_the_loop_of_slices_gives_the_same_book(self):
+        example = (TOP / "examples/plain-bob-minor-bobs-and-singles.toml").read_text()
+        (self.folder / "p.toml").write_text(example)
+        loop = re.search(r"    cp p\.toml next\.txt\n(?:    .*\n)+", RUNNING.read_text(encoding="utf-8"))[0]
+        self.assertIn("--turns 10000000000", loop)
+        status, output, notes = compose_in_shell(loop.replace("10000000000", "900"), self.folder)
+        self.assertEqual((status, output), (0, ""))
+        self.assertGreaterEqual(notes.count("ringsearch: stopped after 900 turns"), 3)
+        self.assertEqual((self.folder / "out.txt").read_text().splitlines(), search(example)[1])
+
+    def test_a_signal_ends_it_and_nothing_is_written(self):
+        for name, status in ((signal.SIGINT, -signal.SIGINT), (signal.SIGTERM, -signal.SIGTERM)):
+            with LONG.open("rb") as problem, subprocess.Popen(
+                [PROGRAM], stdin=problem, stdout=subprocess.PIPE, stderr=subprocess.PIPE
+            ) as running:
+                time.sleep(0.3)
+                self.assertIsNone(running.poll())
+                running.send_signal(name)
+                output, notes = running.communicate(timeout=60)
+            self.assertEqual((running.returncode, output, notes), (status, b"", b""))
+
+    def test_want_of_memory_is_a_status(self):
+        line = f"ulimit -v 40000; ./ringsearch < {TOP}/bench/minor-276.toml"
+        self.assertEqual(compose_in_shell(line, self.folder), (8, "", "ringsearch: no memory\n"))
 
 
 if __name__ == "__main__":
