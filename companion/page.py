@@ -42,7 +42,7 @@ def page_text(shower: Shower, touch: Touch, leads: list[Lead], bells: list[int])
 
 def title_of(shower: Shower, touch: Touch) -> str:
     names = [method.get("name") or letter for method, letter in zip(shower.values.methods, shower.values.letters)]
-    if shower.callings.six_marks:
+    if shower.callings.six_places:
         names = names[:1]
     several = "Spliced " + STAGE_NAMES[shower.values.stage]
     return f"{touch.length} {names[0] if len(names) == 1 else several}"
@@ -88,7 +88,7 @@ def key_of(bells: list[int], stage: int) -> str:
 def courses_table(shower: Shower, leads: list[Lead]) -> str:
     courses = shower.callings.courses(leads)
     where = "calls" if shower.callings.by_tenor else "calls, by number"
-    lines = [f"<tr><th>leads</th><th>course end</th><th>{where}</th></tr>"]
+    lines = [f"<tr><th>leads</th><th>{shower.callings.end_name}</th><th>{where}</th></tr>"]
     for course in courses:
         calls = " ".join(call.name for call in course.calls) or "–"
         lines.append(f'<tr><td>{course.leads}</td><td class="row">{row_text(course.end)}</td><td>{escape(calls)}</td></tr>')
@@ -162,6 +162,6 @@ def lead_drawing(
     edge = MARGIN + stage * COLUMN
     rule = "course" if is_course_end else "end"
     parts.append(f'<line class="{rule}" x1="{MARGIN}" x2="{edge}" y1="{row_y(len(lead.rows)) + 3:g}" y2="{row_y(len(lead.rows)) + 3:g}"/>')
-    for at, call in enumerate(reversed(calls)):
-        parts.append(f'<text class="call" x="{edge + 3}" y="{row_y(len(lead.rows) - at):g}">{escape(call.name)}</text>')
+    for call in calls:
+        parts.append(f'<text class="call" x="{edge + 3}" y="{row_y(call.row):g}">{escape(call.name)}</text>')
     return "\n".join([*parts, "</svg>"])

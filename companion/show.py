@@ -70,7 +70,7 @@ class Shower:
         leads = self.leads_of(touch)
         parts = self.values.root["query"].get("parts", 1)
         courses = self.callings.courses(leads)
-        part = self.callings.courses(leads[: len(leads) // parts])
+        part = self.callings.courses(leads[: len(leads) // parts]) if parts > 1 else courses
         calling = calling_line(part) + (f"  ({parts} parts)" if parts > 1 else "")
         calls = sum(len(course.calls) for course in courses)
         return Shown(touch, self.music_of(leads), calls, len(courses), calling)
@@ -103,16 +103,26 @@ def read_problem(name: str) -> Values:
 
 def show_table(shower: Shower, touches: list[Touch], args: argparse.Namespace) -> None:
     names = [kind.name for kind in shower.kinds]
-    key = sort_key(args.sort.split(","), names)
-    rows = sorted(map(shower.shown, touches), key=key)
-    shown = rows[: args.first] if args.first > 0 else rows
-    spliced = len(shower.values.methods) > 1 and not shower.callings.six_marks
+    rows = first_rows(shower, touches, args.sort.split(","), args.first)
+    spliced = len(shower.values.methods) > 1 and not shower.callings.six_places
     head = ["no", "length", "calls", *names, "courses", "calling", *(["in the book"] if spliced else [])]
-    lines = [table_line(one, spliced) for one in shown]
-    table.show(head, lines, sys.stdout)
-    rest = len(rows) - len(shown)
+    table.show(head, [table_line(one, spliced) for one in rows], sys.stdout)
+    rest = len(touches) - len(rows)
     if rest:
-        print(f"{rest} more; --first 0 shows all {len(rows)}.")
+        print(f"{rest} more; --first 0 shows all {len(touches)}.")
+
+
+def first_rows(shower: Shower, touches: list[Touch], asked: list[str], first: int) -> list[Shown]:
+    """The first touches in the order that is asked for. Where they need not be rung for it, only they are rung."""
+    names = [kind.name for kind in shower.kinds]
+    for word in asked:
+        if word not in (*RISING, *names):
+            raise Mistake(f"--sort takes {', '.join([*RISING, *names])}, and not “{word}”.")
+    count = first if first > 0 else len(touches)
+    if set(asked) <= {"number", "length"}:
+        touches = sorted(touches, key=lambda touch: (touch.length if "length" in asked else 0, touch.number))
+        return [shower.shown(touch) for touch in touches[:count]]
+    return sorted(map(shower.shown, touches), key=lambda one: sort_key(one, asked, names))[:count]
 
 
 def table_line(one: Shown, spliced: bool) -> list[str]:
@@ -121,17 +131,10 @@ def table_line(one: Shown, spliced: bool) -> list[str]:
     return [*map(str, numbers), one.calling, *([one.touch.calling] if spliced else [])]
 
 
-def sort_key(asked: list[str], names: list[str]):
-    """The order that is asked for: kinds of music from the most to the least, all else from the least to the most."""
-    for word in asked:
-        if word not in (*RISING, *names):
-            raise Mistake(f"--sort takes {', '.join([*RISING, *names])}, and not “{word}”.")
-
-    def key(one: Shown) -> list[int]:
-        told = {"number": one.touch.number, "length": one.touch.length, "calls": one.calls, "courses": one.courses}
-        return [told[word] if word in told else -one.music[names.index(word)] for word in asked] + [one.touch.number]
-
-    return key
+def sort_key(one: Shown, asked: list[str], names: list[str]) -> list[int]:
+    """Where a touch stands: kinds of music go from the most to the least, all else from the least to the most."""
+    told = {"number": one.touch.number, "length": one.touch.length, "calls": one.calls, "courses": one.courses}
+    return [told[word] if word in told else -one.music[names.index(word)] for word in asked] + [one.touch.number]
 
 
 # One touch
@@ -150,7 +153,7 @@ def show_touch(shower: Shower, touch: Touch, args: argparse.Namespace) -> None:
     print(f"{touch.length} {touch.calling}")
     lines = [[str(course.leads), row_text(course.end), " ".join(call.name for call in course.calls)]
              for course in shower.callings.courses(leads)]
-    table.show(["leads", "course end", "calls"], lines, sys.stdout)
+    table.show(["leads", shower.callings.end_name, "calls"], lines, sys.stdout)
     for kind, count in zip(shower.kinds, shower.music_of(leads)):
         print(f"{kind.name}: {count}")
     for row, names in named_rows(shower, leads):

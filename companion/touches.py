@@ -119,10 +119,11 @@ def call_name(mark: str, position: str) -> str:
 
 @dataclass(frozen=True)
 class Call:
-    """A call: its mark, and its position, or its number where the treble works like the other bells."""
+    """A call: its mark, its position, or its number where the treble works like the other bells, and its row in the lead, from 1."""
 
     mark: str
     position: str
+    row: int
 
     @property
     def name(self) -> str:
@@ -144,44 +145,48 @@ class Callings:
     def __init__(self, values: Values):
         self.values = values
         self.by_tenor = all(lead_head(lead, values.stage)[0] == 1 for lead in values.leads)
+        self.end_name = "course end" if self.by_tenor else "end"
 
     @cached_property
-    def six_marks(self) -> list[str] | None:
-        """For leads of two sixes the call at each method's first six end, or None where leads are no such leads."""
-        first = self.values.leads[0]
+    def six_places(self) -> tuple[int, ...]:
+        """For leads of two sixes the changes at which calls stand; none where leads are no such leads."""
         for method in library.methods().values():
-            if method.calls_at and method.stage == self.values.stage and method.changes() == first:
-                at = method.calls_at[0] - 1
-                return [
-                    "" if lead[at] == first[at] else self.values.letters[index].lower()
-                    for index, lead in enumerate(self.values.leads)
-                ]
-        return None
+            if method.calls_at and method.stage == self.values.stage and method.changes() == self.values.leads[0]:
+                return method.calls_at
+        return ()
+
+    @cached_property
+    def first_marks(self) -> list[str]:
+        """For leads of two sixes the call at each method's first six end, as a mark; empty where it is plain."""
+        at = self.six_places[0] - 1
+        plain = self.values.leads[0]
+        return ["" if lead[at] == plain[at] else letter.lower() for lead, letter in zip(self.values.leads, self.values.letters)]
 
     def calls_of(self, lead: Lead, number: int) -> list[Call]:
         """The calls of a touch's lead, by its number from 1."""
         mark = [] if lead.mark == "p" else [lead.mark]
-        if self.by_tenor:
-            place = lead.after.index(self.values.stage) + 1
-            return [Call(one, position_name(place, self.values.stage)) for one in mark]
-        if self.six_marks:
-            first = self.six_marks[lead.method]
-            calls = [Call(first, str(2 * number - 1))] if first else []
-            return calls + [Call(one, str(2 * number)) for one in mark]
-        return [Call(one, str(number)) for one in mark]
+        if self.six_places:
+            first, second = self.six_places
+            front = self.first_marks[lead.method]
+            calls = [Call(front, str(2 * number - 1), first)] if front else []
+            return calls + [Call(one, str(2 * number), second) for one in mark]
+        if not mark:
+            return []
+        place = lead.after.index(self.values.stage) + 1
+        position = position_name(place, self.values.stage) if self.by_tenor else str(number)
+        return [Call(lead.mark, position, len(lead.rows))]
 
     def courses(self, leads: list[Lead]) -> list[Course]:
         """The courses of a touch; the last one ends it, whether the tenor is home or not."""
         found: list[Course] = []
         calls: list[Call] = []
-        count = 0
+        begun, tenor = 0, self.values.stage
         for number, lead in enumerate(leads, start=1):
-            calls += self.calls_of(lead, number)
-            count += 1
-            is_end = lead.after[-1] == self.values.stage and self.by_tenor
-            if is_end or number == len(leads):
-                found.append(Course(count, tuple(calls), lead.after))
-                calls, count = [], 0
+            if lead.mark != "p" or self.six_places:
+                calls += self.calls_of(lead, number)
+            if number == len(leads) or (self.by_tenor and lead.rows[-1][-1] == tenor):
+                found.append(Course(number - begun, tuple(calls), lead.after))
+                calls, begun = [], number
         return found
 
 
