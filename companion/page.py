@@ -151,7 +151,7 @@ def lead_drawing(
     rows = [lead.before, *lead.rows]
     stage = len(lead.before)
     wide, high = MARGIN + stage * COLUMN + CALL_ROOM, LINE * len(rows) + 8
-    parts = [f'<svg viewBox="0 0 {wide} {high}" role="img">']
+    parts = [f'<svg viewBox="0 0 {wide} {high}">']
     colours = colours_of(bells)
     parts += [line_drawing(rows, bell, colours[bell]) for bell in bells]
     parts.append(row_drawing(lead.before, 0, "start" if is_first else "head"))

@@ -174,8 +174,6 @@ def of_counts(values: Values) -> Iterator[str]:
         minima = {item[key]: bounds(item)[0] for item in asked}
         if len(minima) > 1 and sum(minima.values()) > room >= max(minima.values()):
             yield f"{sum(minima.values())} leads are asked for in all, and a touch has at most {room}."
-        if table == "count" and minima.keys() == {"p"} and bounds(asked[0])[1] == 0:
-            yield "no plain lead is allowed: is `mark = \"p\"` meant?"
 
 
 def of_rows(values: Values) -> Iterator[str]:

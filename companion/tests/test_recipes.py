@@ -20,10 +20,11 @@ from companion.tests.running import PROGRAM, TOP, compose_in_shell, need_program
 
 COMPOSING = TOP / "docs/composing.md"
 RUNNING = TOP / "docs/running.md"
+FORMATS = TOP / "docs/formats.md"
 LONG = TOP / "bench/major-640.toml"
 
 # Recipes whose books plain_search finds in a few seconds.
-CHEAP = ("first.toml", "grandsire.toml", "kent.toml", "half.toml", "short.toml", "spliced.toml")
+CHEAP = ("first.toml", "grandsire.toml", "erin.toml", "kent.toml", "half.toml", "short.toml", "spliced.toml")
 
 
 def recipes():
@@ -119,6 +120,15 @@ class Running(unittest.TestCase):
         self.assertEqual((status, output), (0, ""))
         self.assertGreaterEqual(notes.count("ringsearch: stopped after 900 turns"), 3)
         self.assertEqual((self.folder / "out.txt").read_text().splitlines(), search(example)[1])
+
+    def test_the_example_of_a_checkpoint_in_the_formats(self):
+        lines = [line.strip() for line in FORMATS.read_text(encoding="utf-8").splitlines() if line.startswith("    ./ringsearch")]
+        self.assertEqual(len(lines), 2)
+        (self.folder / "examples").symlink_to(TOP / "examples")
+        self.assertEqual(compose_in_shell(lines[0], self.folder), (3, "", "ringsearch: stopped after 1000 turns\n"))
+        status, book, _ = compose_in_shell(lines[1], self.folder)
+        example = (TOP / "examples/plain-bob-minor-bobs-and-singles.toml").read_text()
+        self.assertEqual((status, book.splitlines()), (0, search(example)[1]))
 
     def test_a_signal_ends_it_and_nothing_is_written(self):
         for name, status in ((signal.SIGINT, -signal.SIGINT), (signal.SIGTERM, -signal.SIGTERM)):
