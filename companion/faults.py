@@ -67,7 +67,12 @@ PARTS = (
     Part("method", (Key("letter", "text", True), Key("notation", "text", True), Key("name", "text", False)), 1, 8),
     Part(
         "call",
-        (Key("mark", "text", True), Key("notation", "text", True), Key("over", "number", False), Key("methods", "letters", False)),
+        (
+            Key("mark", "text", True),
+            Key("notation", "text", True),
+            Key("over", "number", False),
+            Key("methods", "letters", False),
+        ),
         0,
         23,
     ),
@@ -297,8 +302,9 @@ def check_call_length(values: Values, call: int, method: int) -> None:
     if over > lead:
         words = f"the call {mark} replaces {over} changes, and the lead of {letter} has {lead}"
         raise Fault("CallLength", f"{call} {method}", words, at)
-    if not values.called_length(call, method) <= MOST_CHANGES:
-        words = f"the call {mark} gives a lead of {letter} with {values.called_length(call, method)} changes, and 128 are the most"
+    length = values.called_length(call, method)
+    if length > MOST_CHANGES:
+        words = f"the call {mark} gives a lead of {letter} with {length} changes, and 128 are the most"
         raise Fault("CallLength", f"{call} {method}", words, at)
 
 

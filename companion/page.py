@@ -161,7 +161,8 @@ def lead_drawing(
         parts.append(row_drawing(row, index, "row music" if is_music else "row"))
     edge = MARGIN + stage * COLUMN
     rule = "course" if is_course_end else "end"
-    parts.append(f'<line class="{rule}" x1="{MARGIN}" x2="{edge}" y1="{row_y(len(lead.rows)) + 3:g}" y2="{row_y(len(lead.rows)) + 3:g}"/>')
+    below = row_y(len(lead.rows)) + 3
+    parts.append(f'<line class="{rule}" x1="{MARGIN}" x2="{edge}" y1="{below:g}" y2="{below:g}"/>')
     for call in calls:
         parts.append(f'<text class="call" x="{edge + 3}" y="{row_y(call.row):g}">{escape(call.name)}</text>')
     return "\n".join([*parts, "</svg>"])

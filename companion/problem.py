@@ -25,7 +25,7 @@ def add_arguments(parser: argparse.ArgumentParser) -> None:
         "--call", action="append", default=[], metavar="MARK=NOTATION[/OVER][@LETTERS]",
         help="a call by hand: its mark, its notation, how many changes at the end of the lead it replaces, and in which methods",
     )
-    parser.add_argument("--half-lead", metavar="CHANGE", help="each method also with this change in place of that at its half lead")
+    parser.add_argument("--half-lead", metavar="CHANGE", help="each method also with this change at its half lead")
     parser.add_argument("--letters", metavar="LETTERS", help="the methods' letters, in the order of the titles")
     parser.add_argument("--parts", type=int, default=1, metavar="N", help="so many equal parts")
     for option, words in (("at-most", "at most"), ("at-least", "at least"), ("exactly", "exactly")):
@@ -293,7 +293,7 @@ def write_tenors(problem: Problem) -> None:
     heavy = " and ".join(SYMBOLS[problem.stage - 2:problem.stage])
     comment = f"The tenors, {heavy}, stay together: no touch has a row of these patterns."
     if found.is_wider:
-        comment += "\nThey may swap where a call swaps them: no row tells a course from the one with the tenors the other way round."
+        comment += "\nThey may swap where a call swaps them: no row tells a course from that with the tenors the other way round."
     problem.tenor_comment = comment
 
 

@@ -19,7 +19,8 @@ RISING = ("number", "length", "calls", "courses")
 def add_arguments(parser: argparse.ArgumentParser) -> None:
     parser.add_argument("problem", metavar="PROBLEM", help="the problem file")
     parser.add_argument("book", metavar="BOOK", help="the book that the program wrote, or - for standard input")
-    parser.add_argument("--sort", default="number", metavar="WHAT,WHAT", help="number, length, calls, courses, or a kind of music")
+    words = "number, length, calls, courses, or a kind of music"
+    parser.add_argument("--sort", default="number", metavar="WHAT,WHAT", help=words)
     parser.add_argument("--first", type=int, default=40, metavar="N", help="so many touches of the table; 0 is all of them")
     parser.add_argument("--music", type=Path, default=music.TABLE, metavar="FILE", help="another table of music")
     parser.add_argument("--touch", type=int, metavar="N", help="one touch, by its number in the book")

@@ -119,7 +119,7 @@ def call_name(mark: str, position: str) -> str:
 
 @dataclass(frozen=True)
 class Call:
-    """A call: its mark, its position, or its number where the treble works like the other bells, and its row in the lead, from 1."""
+    """A call: its mark, its position, and its row in the lead, from 1. Where the treble works too, its position is a number."""
 
     mark: str
     position: str

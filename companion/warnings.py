@@ -170,7 +170,7 @@ def of_counts(values: Values) -> Iterator[str]:
             if least > room:
                 yield f"at least {least} {what} {item[key]} are asked for, and a touch has at most {room} leads."
             elif parts > 1 and most // parts * parts < least:
-                yield f"{least} to {most} {what} {item[key]} can't be: in {parts} equal parts their number is a multiple of {parts}."
+                yield f"{least} to {most} {what} {item[key]} can't be: in {parts} parts their number is a multiple of {parts}."
         minima = {item[key]: bounds(item)[0] for item in asked}
         if len(minima) > 1 and sum(minima.values()) > room >= max(minima.values()):
             yield f"{sum(minima.values())} leads are asked for in all, and a touch has at most {room}."
