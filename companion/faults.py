@@ -198,13 +198,16 @@ def wrong_kind(root: dict[str, Any], key: Key, value: Any) -> str | None:
 
 
 def wrong_letters(root: dict[str, Any], text: str) -> str | None:
-    letters = {method.get("letter") for method in root["method"]}
-    if not text:
+    """Why a text is not some methods' letters; it is compared byte by byte, as the program does."""
+    letters = {method["letter"].encode() for method in root["method"]}
+    spelled = text.encode()
+    if not spelled:
         return "`methods` is empty: leave it out where the call is made in all methods"
-    stranger = next((letter for letter in text if letter not in letters), None)
-    if stranger:
-        return f"`methods` names {stranger}, and no method has this letter"
-    if len(set(text)) < len(text):
+    stranger = next((byte for byte in spelled if bytes([byte]) not in letters), None)
+    if stranger is not None:
+        shown = chr(stranger) if stranger < 128 else text
+        return f"`methods` names {shown}, and no method has this letter"
+    if len(set(spelled)) < len(spelled):
         return "`methods` names a letter twice"
     return None
 

@@ -64,6 +64,7 @@ REFUSED = [
     (changed("min = 1", 'min = "1"'), "2 Key query.min"),
     (changed('letter = "A"\n', ""), "2 Key method[0].letter"),
     (changed('"145"', '"145"\nmethods = "B"'), "2 Key call[0].methods"),
+    (changed('"A"', '"\u00e9"').replace('"145"', '"145"\nmethods = "\u00e9"'), "2 Key call[0].methods"),
     (changed("stage = 5", "stage = true"), "2 Key stage"),
     (changed("max = 120", "max = 99999999999999999999"), "1 NotToml"),
     ("\u00e9 = 1\n" + DOUBLES, "1 NotToml"),
