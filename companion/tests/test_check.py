@@ -7,6 +7,7 @@ from pathlib import Path
 
 from companion.cures import notation_cure, problem_cure
 from companion.faults import NUMBERS, first_fault
+from companion.tests import made_up
 from companion.tests.running import compose, search
 
 DOUBLES = """stage = 5
@@ -141,6 +142,17 @@ class Check(unittest.TestCase):
             status, _, note = search(text, "--turns", "0")
             fault = first_fault(text)
             self.assertEqual(note if status == 4 else None, fault.note() if fault else None, text)
+
+    def test_the_program_agrees_on_made_up_files(self):
+        chosen = random.Random(17)
+        names = set()
+        for _ in range(300):
+            text = made_up.problem(chosen)
+            status, _, note = search(text, "--turns", "0")
+            fault = first_fault(text.encode())
+            self.assertEqual(note if status == 4 else None, fault.note() if fault else None, text)
+            names.add(fault.name if fault else None)
+        self.assertLessEqual({None, "Letter", "Notation", "CallLength", "Clash", "Range", "Count", "Pattern"}, names)
 
     def test_beginners_mistakes(self):
         for problem, words in MISTAKES:
