@@ -8,8 +8,8 @@ ghost use Rattle.cr_top.specs.Runs.{KeepsTo, BoardRan, RunsTo, board_turns, turn
 
 use cr_board::laws::{journals_tell_boards, partitions_follow_one_another};
 use cr_board::{Board, Entry, Opening};
-use cr_model::{Calling, Problem};
 use cr_model::laws::sizes_are_sums;
+use cr_model::{Calling, Problem};
 use cr_node::{Explorer, Node};
 use cr_row::NoMemory;
 use cr_run::laws::boards_at_rest;
@@ -71,7 +71,15 @@ pub fn run_by<R: AllocGlobal + Threads + Wait + Sync, E: Explorer + Sync>(
         requires { E.explores explorer.now ≡ opening.problem }
         ensures { IfOk result (IsRun opening) }
     { run_opening(rt, opening, explorer) };
-    run_boards(rt.alloc(), workers, explorer.problem(), left, turns, most, &run)
+    run_boards(
+        rt.alloc(),
+        workers,
+        explorer.problem(),
+        left,
+        turns,
+        most,
+        &run,
+    )
 }
 
 /// Goes on with a search of a problem on boards for so many workers, each of which is run to its end by `run`, and has at

@@ -12,6 +12,8 @@ returns-in_err-write_beside-clause-writes g c = λ input found jobs start run.
     c.from_residual-in_err-write_beside.result c.from_residual-in_err-write_beside.ensures.1
 
 pub returns-clause-writes : goal.returns-clause-writes
-returns-clause-writes g c = λ input found jobs start run.
-    (pieces_joined c.in_ok-outcome.outcome.pieces.items, c.in_ok-outcome.ensures input found jobs start run,
-    record { grew = c.in_ok-write_beside.ensures.whole; calm = c.in_ok-write_beside.ensures.same })
+returns-clause-writes g c = λ input found jobs start run. (
+  pieces_joined c.in_ok-outcome.outcome.pieces.items,
+  c.in_ok-outcome.ensures input found jobs start run,
+  record { grew = c.in_ok-write_beside.ensures.whole; calm = c.in_ok-write_beside.ensures.same },
+)
