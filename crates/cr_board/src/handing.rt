@@ -80,7 +80,9 @@ impl Board {
     // Takes finished work that deserves it.
     fn accept(&mut self, worker: u32, number: u64, done: Done) -> Handed
         requires { IsDue self.old worker number done }
-        ensures { HandsIn self.old worker number done result self.new }
+        ensures is { HandsIn self.old worker number done result self.new }
+        ensures numbers { result ≡ Handed.In → self.old.next + 2 < 2 ^ 64 }
+        ensures turns { result ≡ Handed.In → self.old.spent + 2 ^ 64 ≤ 2 ^ 128 }
     {
         a_split_among_others();
         if make_hand_room(&mut self.state, worker as usize, done.found().len()).is_err() {

@@ -1,4 +1,5 @@
-use Rattle.std.proofs.Common.{◌≡◌, length, is_some, refl, sym, ap, ◌∙◌, subst, arith}
+use Rattle.std.proofs.Common.{◌≡◌, ◌+◌, ◌^◌, ◌<◌, ◌≤◌, false, Result, Ok, Err, length, is_some, refl, sym, ap, ◌∙◌, subst, arith}
+use Rattle.std.specs.Prelude.{OnOk, is_err}
 use Rattle.std.proofs.lemmas.List.{length-map}
 use Rattle.cr_board.specs.Boards.{BoardParts}
 use Rattle.cr_board.specs.Choices.{is_holding}
@@ -15,8 +16,8 @@ invariant_of-self c = record {
   rooms = c.make_hand_room.ensures.kept c.self.invariant.rooms;
 }
 
-pub returns-then-is_err : goal.returns-then-is_err
-returns-then-is_err c = (refl, c.requires, c.make_hand_room.ensures.same c.self.inside.opening ∙ c.self.view_is)
+pub returns-then-is_err-clause-is : goal.returns-then-is_err-clause-is
+returns-then-is_err-clause-is c = (refl, c.requires, c.make_hand_room.ensures.same c.self.inside.opening ∙ c.self.view_is)
 
 pub hand_over-requires-clause-worker : goal.hand_over-requires-clause-worker
 hand_over-requires-clause-worker c =
@@ -55,8 +56,27 @@ invariant_of-self-in-Err c = record {
   rooms = c.make_hand_room.ensures.kept c.self.invariant.rooms;
 }
 
-pub returns-in-Ok : goal.returns-in-Ok
-returns-in-Ok c = (c.requires, is_handed c ∙ ap (λ b. handed_in b c.args.worker c.args.number c.args.done) c.self.view_is)
+pub returns-in-Ok-clause-is : goal.returns-in-Ok-clause-is
+returns-in-Ok-clause-is c = (c.requires, is_handed c ∙ ap (λ b. handed_in b c.args.worker c.args.number c.args.done) c.self.view_is)
 
-pub returns-in-Err : goal.returns-in-Err
-returns-in-Err c = (c.in-Err.ensures.back, c.requires, c.make_hand_room.ensures.same c.self.inside.opening ∙ c.self.view_is)
+pub returns-in-Err-clause-is : goal.returns-in-Err-clause-is
+returns-in-Err-clause-is c = (c.in-Err.ensures.back, c.requires, c.make_hand_room.ensures.same c.self.inside.opening ∙ c.self.view_is)
+
+-- what holds where a result is no error
+on_ok : {V E P : Type 0} (result : Result V E) → false ≡ is_err result → OnOk result P → P
+on_ok (Ok value) is holds = holds
+on_ok (Err error) is holds = absurd (cc)
+
+pub returns-in-Ok-clause-numbers : goal.returns-in-Ok-clause-numbers
+returns-in-Ok-clause-numbers c = λ taken.
+    let same : c.make_hand_room.new.state.next ≡ c.args.self.now.next =
+    ap (λ (b : BoardParts). b.next) (c.make_hand_room.ensures.same c.self.inside.opening ∙ c.self.view_is) in
+    let room : c.make_hand_room.new.state.next + 2 < 2 ^ 64 = (on_ok c.make_hand_room.result c.if-is_err.ensures.value c.make_hand_room.ensures.room).next in
+    omega (arith, same, room)
+
+pub returns-in-Ok-clause-turns : goal.returns-in-Ok-clause-turns
+returns-in-Ok-clause-turns c = λ taken.
+    let same : c.make_hand_room.new.state.spent ≡ c.args.self.now.spent =
+    ap (λ (b : BoardParts). b.spent) (c.make_hand_room.ensures.same c.self.inside.opening ∙ c.self.view_is) in
+    let room : c.make_hand_room.new.state.spent + 2 ^ 64 ≤ 2 ^ 128 = (on_ok c.make_hand_room.result c.if-is_err.ensures.value c.make_hand_room.ensures.room).spent in
+    omega (arith, same, room)
