@@ -23,6 +23,10 @@ pub mod Telling
 pub mod LinesStand
 pub mod ShapeBytes
 pub mod ShapeNumbers
+pub mod BlockSizes
+pub mod BlockHeads
+pub mod BlockPlaces
+pub mod BlockLaws
 pub mod ShapeBodies
 pub mod ShapeCodes
 pub mod ShapeWrong

@@ -12,7 +12,7 @@ use Rattle.std.proofs.lemmas.Fmt.{decimal_nonempty, length-decimal-le, first_dec
 use Rattle.cr_store.specs.Shapes.{IsNumber}
 use Rattle.cr_store.specs.ShapeSteps.{IsNumeral}
 
-own : IsNumeralModel (λ ds. list_all is_ascii_digit ds ≡ true) (digits_value 10)
+pub own : IsNumeralModel (λ ds. list_all is_ascii_digit ds ≡ true) (digits_value 10)
 own = numerals_by_value (λ ds. list_all is_ascii_digit ds ≡ true) (search rules)
 
 -- digits that are not too many are below 2^64, and so is the number of their first

@@ -10,3 +10,4 @@ pub mod Chains
 pub mod ShapeStages
 pub mod ShapeSteps
 pub mod Searches
+pub mod Blocks

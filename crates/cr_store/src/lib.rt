@@ -1,6 +1,8 @@
 //! Checkpoints: what a search has found and what is left of it, written and read back.
 #![tactic(auto)]
 
+pub mod block_laws;
+mod blocks;
 mod checking;
 mod checkpoint;
 mod collecting;
@@ -18,6 +20,7 @@ mod shape_stop;
 mod texts;
 mod writing;
 
+pub use blocks::{Next, next_block, put_block};
 pub use checkpoint::{Checkpoint, read_checkpoint};
 pub use collecting::{Left, left_in_order, left_of};
 pub use fault::CheckFault;
