@@ -46,7 +46,7 @@ fn bodies_are_put_one_after_another(rt: HostRuntime) -> Result<(), Fail> {
     let mut text = b"block 1\nx".to_vec(rt.alloc())?;
     put_block(&mut text, b"ab")?;
     put_block(&mut text, b"0123456789")?;
-    if text.as_slice() == b"block 1\nxblock 2\nabblock 10\n0123456789" {
+    if text.as_slice() == b"block 1\nxblock 2\nabblock 10\n0123456789".as_slice() {
         Ok(())
     } else {
         Err(Fail::from("blocks"))
