@@ -9,7 +9,7 @@ use Rattle.std.proofs.lemmas.List.Concat.{flat_map-cons}
 use Rattle.std.proofs.lemmas.List.Folds.{find-append}
 use Rattle.cr_node.specs.Work.{Work}
 use Rattle.cr_board.specs.Boards.{BoardParts, held_at, held_jobs, jobs_of}
-use Rattle.cr_board.specs.Halls.{backs}
+use Rattle.cr_board.specs.ReplayStates.{backs}
 use Rattle.cr_board.specs.Partitions.{HasShape}
 use Rattle.cr_board.specs.Choices.{refusal_of, is_busy, is_holding, first_from, round, end_of, next_place, claim_place, waits_for, answer_by, next_answer, claimed_by, claim_answer, entries_taken, entries_claimed}
 use Rattle.cr_board.specs.Moves.{after_ask, after_next, after_claim, handed_in, put_back, after_resigning, after_recall}

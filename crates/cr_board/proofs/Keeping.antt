@@ -6,7 +6,7 @@ use Rattle.cr_model.specs.Sizes.{most_rows, size_of_all}
 use Rattle.cr_board.specs.Jobs.{JobParts, OpeningParts, IsOpening}
 use Rattle.cr_board.specs.declared.entry.Entry.{Entry}
 use Rattle.cr_board.specs.Boards.{BoardParts, held_at, opened}
-use Rattle.cr_board.specs.Halls.{IsReplayed}
+use Rattle.cr_board.specs.ReplayStates.{IsReplayed}
 use Rattle.cr_board.specs.Choices.{refusal_of, next_place, claim_place, Stands}
 use Rattle.cr_board.specs.Partitions.{IsKept}
 use Rattle.cr_board.specs.Moves.{taken_at, after_ask, put_back, given_back, after_resigning, back_below, after_recall, handed_in, IsDue}
@@ -44,7 +44,7 @@ giving_replayed b worker replayed = by (held_at b.held worker) refl
 
 -- who resigned is not told by the journal
 flags_replayed : (b : BoardParts) (flags : List Bool) → IsReplayed b → IsReplayed (record b { resigned = flags })
-flags_replayed b flags replayed = record { allowed = replayed.allowed; hall = replayed.hall; found = replayed.found }
+flags_replayed b flags replayed = record { allowed = replayed.allowed; replay_state = replayed.replay_state; found = replayed.found }
 
 below_replayed : (b : BoardParts) (count : ℕ) → IsReplayed b → IsReplayed (back_below b count)
 below_replayed b zero replayed = replayed

@@ -8,7 +8,7 @@ pub mod Events
 pub mod Openings
 pub mod Covering
 pub mod Numbers
-pub mod HallFacts
+pub mod ReplayFacts
 pub mod Replaying
 pub mod Reading
 pub mod Rooms

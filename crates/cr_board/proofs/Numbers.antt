@@ -6,7 +6,7 @@ use Rattle.std.proofs.lemmas.Bool.{ne_eqb, eqb-false}
 use Rattle.std.proofs.lemmas.List.{get_or-map, length-map}
 use Rattle.std.proofs.lemmas.List.Sums.{sum_by-append, sum_by-cons}
 use Rattle.cr_board.specs.Jobs.{JobParts, numbered}
-use Rattle.cr_board.specs.Halls.{without, numbers_of}
+use Rattle.cr_board.specs.ReplayStates.{without, numbers_of}
 
 -- how often a number stands in a list
 abbrev pub times : ℕ → List ℕ → ℕ

@@ -3,7 +3,7 @@ use Rattle.std.proofs.Common.{◌≡◌, ◌≢◌, ℕ, zero, suc, ◌+◌, ◌
 use Rattle.std.proofs.lemmas.Bool.{cases_lt, cases_eq}
 use Rattle.std.proofs.lemmas.List.{get_or-set_same, get_or-set_other, length-set, take_more, append_assoc, get_or_past, length-take-le, take_all}
 use Rattle.cr_board.specs.Boards.{BoardParts, lane_at, held_at, held_jobs}
-use Rattle.cr_board.specs.Halls.{backs}
+use Rattle.cr_board.specs.ReplayStates.{backs}
 use Rattle.cr_board.specs.Moves.{put_back, given_back, back_below, after_recall}
 use Rattle.cr_board.specs.declared.held.Held.{Held}
 use Rattle.cr_board.specs.declared.entry.Entry.{Entry}

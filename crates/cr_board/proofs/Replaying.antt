@@ -7,7 +7,7 @@ use Rattle.std.proofs.lemmas.List.Sums.{sum_by_push, sum_by-cons, sum_by-set}
 use Rattle.cr_node.specs.Work.{Work}
 use Rattle.cr_board.specs.Jobs.{JobParts, OpeningParts, numbered}
 use Rattle.cr_board.specs.Boards.{BoardParts, lane_at, held_at, held_grant, promised, opened}
-use Rattle.cr_board.specs.Halls.{Grip, Hall, grip_at, grant_of, granted, without, CanTake, IsAllowed, after_entry, start, after_entries, AreAllowed, grip_of, numbers_of, hall_of, touches_of, IsReplayed}
+use Rattle.cr_board.specs.ReplayStates.{Hold, ReplayState, hold_at, grant_of, granted, without, CanTake, IsAllowed, after_entry, start, after_entries, AreAllowed, hold_of, numbers_of, replay_state_of, touches_of, IsReplayed}
 use Rattle.cr_board.specs.Choices.{is_spent, job_at, grant_now, Stands}
 use Rattle.cr_board.specs.Moves.{taken_at, put_back, handed_in, halves}
 use Rattle.cr_board.specs.declared.held.Held.{Held}
@@ -15,15 +15,15 @@ use Rattle.cr_board.specs.declared.place.Place.{Place}
 use Rattle.cr_board.specs.declared.entry.Entry.{Entry}
 use Rattle.cr_board.specs.declared.entry.Entry.TheVariants.{Take, Hand, Back}
 use Rattle.cr_board.proofs.Numbers.{times, numbers_are, removed_is_without}
-use Rattle.cr_board.proofs.HallFacts.{HallKeeps, Within, entries_keep, start_keeps}
+use Rattle.cr_board.proofs.ReplayFacts.{ReplayKeeps, Within, entries_keep, start_keeps}
 use Rattle.cr_board.proofs.Asking.{IsFree}
 
 -- one entry more
-allowed_more : (o : OpeningParts) (h : Hall) (entries : List Entry) (entry : Entry) → AreAllowed o h entries → IsAllowed o (after_entries h entries) entry → AreAllowed o h (entries ++ entry ∷ [])
+allowed_more : (o : OpeningParts) (h : ReplayState) (entries : List Entry) (entry : Entry) → AreAllowed o h entries → IsAllowed o (after_entries h entries) entry → AreAllowed o h (entries ++ entry ∷ [])
 allowed_more o h [] entry all one = (one, tt)
 allowed_more o h (first ∷ entries) entry (here, later) one = (here, allowed_more o (after_entry h first) entries entry later one)
 
-after_more : (h : Hall) (entries : List Entry) (entry : Entry) → after_entries h (entries ++ entry ∷ []) ≡ after_entry (after_entries h entries) entry
+after_more : (h : ReplayState) (entries : List Entry) (entry : Entry) → after_entries h (entries ++ entry ∷ []) ≡ after_entry (after_entries h entries) entry
 after_more h [] entry = refl
 after_more h (first ∷ entries) entry = after_more (after_entry h first) entries entry
 
@@ -33,43 +33,43 @@ numbers_at_is [] lane = refl
 numbers_at_is (x ∷ lanes) zero = refl
 numbers_at_is (x ∷ lanes) (suc lane) = numbers_at_is lanes lane
 
-grip_at_is : (held : List (Option Held)) (worker : ℕ) → get_or (map grip_of held) worker None ≡ grip_of (held_at held worker)
-grip_at_is [] worker = refl
-grip_at_is (x ∷ held) zero = refl
-grip_at_is (x ∷ held) (suc worker) = grip_at_is held worker
+hold_at_is : (held : List (Option Held)) (worker : ℕ) → get_or (map hold_of held) worker None ≡ hold_of (held_at held worker)
+hold_at_is [] worker = refl
+hold_at_is (x ∷ held) zero = refl
+hold_at_is (x ∷ held) (suc worker) = hold_at_is held worker
 
--- grants by grips
-grants_are : (held : List (Option Held)) → sum_by grant_of (map grip_of held) ≡ sum_by held_grant held
+-- grants by holds
+grants_are : (held : List (Option Held)) → sum_by grant_of (map hold_of held) ≡ sum_by held_grant held
 grants_are [] = refl
-grants_are (h ∷ held) = omega (arith, sum_by-cons grant_of (grip_of h) (map grip_of held), sum_by-cons held_grant h held, grants_are held, same h)
+grants_are (h ∷ held) = omega (arith, sum_by-cons grant_of (hold_of h) (map hold_of held), sum_by-cons held_grant h held, grants_are held, same h)
   where
-    same : (h : Option Held) → grant_of (grip_of h) ≡ held_grant h
+    same : (h : Option Held) → grant_of (hold_of h) ≡ held_grant h
     same None = refl
     same (Some held) = refl
 
--- halls that agree are one
-same_hall : (lanes more : List (List ℕ)) (held other : List (Option Grip)) (next spent : ℕ) → lanes ≡ more → held ≡ other
-    → ◌≡◌ {A = Hall} (record { lanes = lanes; held = held; next = next; spent = spent }) (record { lanes = more; held = other; next = next; spent = spent })
-same_hall lanes more held other next spent a b = λ i. record { lanes = a i; held = b i; next = next; spent = spent }
+-- replay states that agree are one
+same_replay_state : (lanes more : List (List ℕ)) (held other : List (Option Hold)) (next spent : ℕ) → lanes ≡ more → held ≡ other
+    → ◌≡◌ {A = ReplayState} (record { lanes = lanes; held = held; next = next; spent = spent }) (record { lanes = more; held = other; next = next; spent = spent })
+same_replay_state lanes more held other next spent a b = λ i. record { lanes = a i; held = b i; next = next; spent = spent }
 
 module _ (b : BoardParts) (replayed : IsReplayed b) where
-  pub hall_keeps : 1 ≤ b.opening.workers → HallKeeps b.opening (hall_of b)
-  hall_keeps some = subst (HallKeeps b.opening) (sym replayed.hall) (entries_keep b.opening (start b.opening) b.journal (start_keeps b.opening some) replayed.allowed)
+  pub state_keeps : 1 ≤ b.opening.workers → ReplayKeeps b.opening (replay_state_of b)
+  state_keeps some = subst (ReplayKeeps b.opening) (sym replayed.replay_state) (entries_keep b.opening (start b.opening) b.journal (start_keeps b.opening some) replayed.allowed)
 
   -- turns that are spent or granted are within the budget
   pub promised_within : 1 ≤ b.opening.workers → Within b.opening.budget (promised b)
-  promised_within some = subst (Within b.opening.budget) (ap (λ n. b.spent + n) (grants_are b.held)) (hall_keeps some).within
+  promised_within some = subst (Within b.opening.budget) (ap (λ n. b.spent + n) (grants_are b.held)) (state_keeps some).within
 
   -- one entry more tells a board that has changed by it
   replayed_more : (entry : Entry) (lanes : List (List JobParts)) (held : List (Option Held)) (more : List (List ℕ)) (next spent : ℕ)
-      → IsAllowed b.opening (hall_of b) entry
-      → ◌≡◌ {A = Hall} (record { lanes = map numbers_of lanes; held = map grip_of held; next = next; spent = spent }) (after_entry (hall_of b) entry)
+      → IsAllowed b.opening (replay_state_of b) entry
+      → ◌≡◌ {A = ReplayState} (record { lanes = map numbers_of lanes; held = map hold_of held; next = next; spent = spent }) (after_entry (replay_state_of b) entry)
       → length more ≡ touches_of entry
       → (found : List (List ℕ)) → found ≡ b.found ++ more
       → IsReplayed (record b { lanes = lanes; held = held; found = found; next = next; spent = spent; journal = b.journal ++ entry ∷ [] })
   replayed_more entry lanes held more next spent allowed is touches found found_is = record {
-    allowed = allowed_more b.opening (start b.opening) b.journal entry replayed.allowed (subst (λ h. IsAllowed b.opening h entry) replayed.hall allowed);
-    hall = is ∙ ap (λ h. after_entry h entry) replayed.hall ∙ sym (after_more (start b.opening) b.journal entry);
+    allowed = allowed_more b.opening (start b.opening) b.journal entry replayed.allowed (subst (λ h. IsAllowed b.opening h entry) replayed.replay_state allowed);
+    replay_state = is ∙ ap (λ h. after_entry h entry) replayed.replay_state ∙ sym (after_more (start b.opening) b.journal entry);
     found =
         let (before, is_before, many) = replayed.found in (
           before ++ more,
@@ -85,8 +85,8 @@ module _ (b : BoardParts) (replayed : IsReplayed b) where
     abbrev taken : Held
     taken = record { job = job_at b.lanes place; grant = grant_now b }
 
-    keeps : HallKeeps b.opening (hall_of b)
-    keeps = hall_keeps (omega (arith, free.worker))
+    keeps : ReplayKeeps b.opening (replay_state_of b)
+    keeps = state_keeps (omega (arith, free.worker))
 
     -- the number stands once in its lane
     once : times number (numbers_of (lane_at b.lanes place.lane)) ≤ 1
@@ -108,10 +108,10 @@ module _ (b : BoardParts) (replayed : IsReplayed b) where
         let differ : budget ≢ promised b = eqb-false budget (promised b) left in
         omega (arith, within, differ)
 
-    can : CanTake b.opening (hall_of b) worker place.lane number (grant_now b)
+    can : CanTake b.opening (replay_state_of b) worker place.lane number (grant_now b)
     can = record {
       worker = free.worker;
-      idle = grip_at_is b.held worker ∙ ap grip_of free.idle;
+      idle = hold_at_is b.held worker ∙ ap hold_of free.idle;
       stands = subst (λ l. Contains l number) (sym (numbers_at_is b.lanes place.lane)) (
         place.place,
         omega (arith, length-map (lane_at b.lanes place.lane) (λ j. j.number), stands.place),
@@ -125,21 +125,21 @@ module _ (b : BoardParts) (replayed : IsReplayed b) where
     pub take_replayed : IsReplayed (taken_at b worker place)
     take_replayed = replayed_more (Take worker place.lane number (grant_now b))
         (set b.lanes place.lane (remove (lane_at b.lanes place.lane) place.place)) (set b.held worker (Some taken)) [] b.next b.spent can
-        (same_hall _ _ _ _ b.next b.spent lanes_are (map-set grip_of b.held worker (Some taken)))
+        (same_replay_state _ _ _ _ b.next b.spent lanes_are (map-set hold_of b.held worker (Some taken)))
         refl b.found (sym (append-nil b.found))
 
   module _ (worker : ℕ) (mine : Held) (holds : held_at b.held worker ≡ Some mine) where
-    gripped : grip_at (hall_of b) worker ≡ Some (record { number = mine.job.number; grant = mine.grant })
-    gripped = grip_at_is b.held worker ∙ ap grip_of holds
+    one_more_hold : hold_at (replay_state_of b) worker ≡ Some (record { number = mine.job.number; grant = mine.grant })
+    one_more_hold = hold_at_is b.held worker ∙ ap hold_of holds
 
     -- a Back
     pub back_replayed : IsReplayed (put_back b worker (Some mine))
     back_replayed = replayed_more (Back worker mine.job.number) (set b.lanes worker (lane_at b.lanes worker ++ mine.job ∷ [])) (set b.held worker None) [] b.next b.spent
-        (mine.grant, gripped, omega arith)
-        (same_hall _ _ _ _ b.next b.spent
+        (mine.grant, one_more_hold, omega arith)
+        (same_replay_state _ _ _ _ b.next b.spent
         (map-set numbers_of b.lanes worker (lane_at b.lanes worker ++ mine.job ∷ [])
         ∙ ap (set (map numbers_of b.lanes) worker) (map-append (λ j. j.number) (lane_at b.lanes worker) (mine.job ∷ []) ∙ ap (λ l. l ++ mine.job.number ∷ []) (sym (numbers_at_is b.lanes worker))))
-        (map-set grip_of b.held worker None))
+        (map-set hold_of b.held worker None))
         refl b.found (sym (append-nil b.found))
 
     few_halves : (rest : List (List ℕ)) → length (halves rest) ≤ 2
@@ -151,12 +151,12 @@ module _ (b : BoardParts) (replayed : IsReplayed b) where
     pub hand_replayed : (work : Work) → work.used ≤ mine.grant → IsReplayed (handed_in b worker mine.job.number work)
     hand_replayed work within = replayed_more (Hand worker mine.job.number work.used (length work.found) (length (halves work.rest)))
         (set b.lanes worker (lane_at b.lanes worker ++ numbered b.next (halves work.rest))) (set b.held worker None) work.found (b.next + length (halves work.rest)) (b.spent + work.used)
-        ((mine.grant, gripped, within), few_halves work.rest)
-        (same_hall _ _ _ _ (b.next + length (halves work.rest)) (b.spent + work.used)
+        ((mine.grant, one_more_hold, within), few_halves work.rest)
+        (same_replay_state _ _ _ _ (b.next + length (halves work.rest)) (b.spent + work.used)
         (map-set numbers_of b.lanes worker (lane_at b.lanes worker ++ numbered b.next (halves work.rest))
         ∙ ap (set (map numbers_of b.lanes) worker) (map-append (λ j. j.number) (lane_at b.lanes worker) (numbered b.next (halves work.rest))
         ∙ ap₂ (λ l k. l ++ k) (sym (numbers_at_is b.lanes worker)) (numbers_are b.next (halves work.rest))))
-        (map-set grip_of b.held worker None))
+        (map-set hold_of b.held worker None))
         refl (b.found ++ work.found) refl
 
 -- the board that an opening gives
@@ -164,15 +164,15 @@ map_replicate : (n : ℕ) → map numbers_of (replicate n []) ≡ replicate n []
 map_replicate zero = refl
 map_replicate (suc n) = ap (λ l. [] ∷ l) (map_replicate n)
 
-grips_replicate : (n : ℕ) → map grip_of (replicate n None) ≡ replicate n None
-grips_replicate zero = refl
-grips_replicate (suc n) = ap (λ l. None ∷ l) (grips_replicate n)
+holds_replicate : (n : ℕ) → map hold_of (replicate n None) ≡ replicate n None
+holds_replicate zero = refl
+holds_replicate (suc n) = ap (λ l. None ∷ l) (holds_replicate n)
 
 pub opened_replayed : (o : OpeningParts) → IsReplayed (opened o)
 opened_replayed o = record {
   allowed = tt;
-  hall = same_hall _ _ _ _ (length o.jobs) 0
+  replay_state = same_replay_state _ _ _ _ (length o.jobs) 0
       (map-set numbers_of (replicate o.workers []) 0 (numbered 0 o.jobs) ∙ ap₂ (λ l x. set l 0 x) (map_replicate o.workers) (numbers_are 0 o.jobs))
-      (grips_replicate o.workers);
+      (holds_replicate o.workers);
   found = ([], sym (append-nil o.found), refl);
 }

@@ -5,7 +5,7 @@ use Rattle.std.proofs.lemmas.Option.{none-some}
 use Rattle.std.proofs.lemmas.List.{get_or-map, get_or_past, length-map}
 use Rattle.cr_board.specs.Jobs.{JobParts}
 use Rattle.cr_board.specs.Boards.{BoardParts, lane_at}
-use Rattle.cr_board.specs.Halls.{numbers_of}
+use Rattle.cr_board.specs.ReplayStates.{numbers_of}
 use Rattle.cr_board.specs.Choices.{is_number, place_in, has_number, place_at, first_from, claim_place}
 use Rattle.cr_board.specs.declared.place.Place.{Place}
 use Rattle.cr_board.proofs.Finding.{found_passes, none_is, none_found}

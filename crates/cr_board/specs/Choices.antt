@@ -3,7 +3,7 @@ use Rattle.std.specs.Prelude.{ℕ, ◌-◌, ◌<◌, Bool, false, cond, not, ◌
 use Rattle.std.specs.List.{range_with_len}
 use Rattle.cr_board.specs.Jobs.{JobParts, TicketParts}
 use Rattle.cr_board.specs.Boards.{BoardParts, lane_at, held_at, promised}
-use Rattle.cr_board.specs.Halls.{granted}
+use Rattle.cr_board.specs.ReplayStates.{granted}
 use Rattle.cr_board.specs.declared.held.Held.{Held}
 use Rattle.cr_board.specs.declared.refusal.Refusal.{Refusal}
 use Rattle.cr_board.specs.declared.refusal.Refusal.TheVariants as refusal

@@ -1,6 +1,6 @@
 pub mod Jobs
 pub mod Boards
-pub mod Halls
+pub mod ReplayStates
 pub mod Partitions
 pub mod Chains
 pub mod Choices

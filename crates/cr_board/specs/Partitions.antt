@@ -6,7 +6,7 @@ use Rattle.cr_model.specs.Nodes.{IsValid, Independent, Covers, nodes_above, time
 use Rattle.cr_model.specs.Sizes.{most_rows, size_of_all}
 use Rattle.cr_board.specs.Jobs.{IsOpening, opening_nodes}
 use Rattle.cr_board.specs.Boards.{BoardParts, held_at, jobs_of, nodes_of}
-use Rattle.cr_board.specs.Halls.{IsReplayed}
+use Rattle.cr_board.specs.ReplayStates.{IsReplayed}
 
 -- found touches and nodes are a partition of those before: each kept touch stands as often in one as in the other, and
 -- the turns spent are what the size has lost

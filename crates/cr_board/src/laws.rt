@@ -11,7 +11,7 @@ ghost use Rattle.cr_model.specs.Checkpoints.{CanGoOn, nodes_of_jobs};
 ghost use Rattle.cr_node.specs.Work.{Work, IsJob};
 ghost use Rattle.cr_board.specs.Jobs.{OpeningParts, IsOpening, opening_nodes};
 ghost use Rattle.cr_board.specs.Boards.{BoardParts, opened, lane_at, held_at, held_jobs, jobs_of, nodes_of};
-ghost use Rattle.cr_board.specs.Halls.{IsReplayed, IsAllowed, AreAllowed, start, replay, times_in, grant_of, granted, numbers_of, hall_of, backs};
+ghost use Rattle.cr_board.specs.ReplayStates.{IsReplayed, IsAllowed, AreAllowed, start, replay, times_in, grant_of, granted, numbers_of, replay_state_of, backs};
 ghost use Rattle.cr_board.specs.Partitions.{HasShape, IsPartition, EachOnce, Partition, IsKept};
 ghost use Rattle.cr_board.specs.Chains.{FollowOn, found_by, spent_by, left_by};
 ghost use Rattle.cr_board.specs.Choices.{round, next_answer, claim_place, claim_answer, entries_taken, entries_claimed, IfJob, IfClaimed};
@@ -154,7 +154,7 @@ pub fn no_number_is_drawn_twice()
         → AreAllowed o (start o) (before ++ Hand worker job used touches opened ∷ later)
         → times_in (replay o (before ++ Hand worker job used touches opened ∷ later)) job ≡ 0 }
     ensures events { (b after : BoardParts) (events : List Event) (number : ℕ) → IsKept b → Ran b events after
-        → number < b.next → times_in (hall_of after) number ≤ times_in (hall_of b) number }
+        → number < b.next → times_in (replay_state_of after) number ≤ times_in (replay_state_of b) number }
     ensures next { (b after : BoardParts) (events : List Event) → IsKept b → Ran b events after → b.next ≤ after.next }
 {
     a_split_among_others();
@@ -173,10 +173,10 @@ pub fn events_keep_what_a_board_keeps()
 /// held. Each of its job numbers is below the next one, and none was handed in.
 pub fn every_board_has_each_once(board: &Board)
     ensures touches { EachOnce board.now.opening.problem board.now.opening.found (opening_nodes board.now.opening) board.now.found (nodes_of board.now) }
-    ensures numbers { (number : ℕ) → times_in (hall_of board.now) number ≤ 1 }
-    ensures below { (number : ℕ) → 1 ≤ times_in (hall_of board.now) number → number < board.now.next }
+    ensures numbers { (number : ℕ) → times_in (replay_state_of board.now) number ≤ 1 }
+    ensures below { (number : ℕ) → 1 ≤ times_in (replay_state_of board.now) number → number < board.now.next }
     ensures handed { (before later : List Entry) (worker job used touches opened : ℕ)
-        → board.now.journal ≡ before ++ Hand worker job used touches opened ∷ later → times_in (hall_of board.now) job ≡ 0 }
+        → board.now.journal ≡ before ++ Hand worker job used touches opened ∷ later → times_in (replay_state_of board.now) job ≡ 0 }
 {
     let _ = board.journal();
     each_touch_stands_once();

@@ -12,7 +12,7 @@ use Rattle.cr_model.specs.Limits.{most_leads}
 use Rattle.cr_model.specs.Sound.{IsSound}
 use Rattle.cr_book.specs.declared.fault.CallingFault.{CallingFault}
 use Rattle.cr_book.specs.declared.fault.CallingFault.TheVariants as fault
-use Rattle.cr_book.specs.Readings.{IsTextOf, CanBegin, IsFirstWrong}
+use Rattle.cr_book.specs.Readings.{IsCallingText, CanBeginCalling, IsFirstWrongByte}
 use Rattle.cr_book.specs.Reads.{Reads}
 use Rattle.cr_book.specs.Leads.{lead_width, LeadIsWrong, IsReadTo}
 use Rattle.cr_book.proofs.StepsDiffer.{some_step}
@@ -20,27 +20,27 @@ use Rattle.cr_book.proofs.LeadTexts.{wide, some_width, one_lead, one_calling}
 use Rattle.cr_book.proofs.PrefixCodes.{after, After, none_from_text}
 
 -- what can begin a calling's text, its fronts can too
-begins_shorter : (p : ProblemParts) (front more : List ℕ) → CanBegin p (front ++ more) → CanBegin p front
+begins_shorter : (p : ProblemParts) (front more : List ℕ) → CanBeginCalling p (front ++ more) → CanBeginCalling p front
 begins_shorter p front more can = record {
   calling = can.calling;
   more = more ++ can.more;
   begins = record { readable = can.begins.readable; is = can.begins.is ∙ append_assoc front more can.more };
 }
 
-front_begins : (p : ProblemParts) (text : List ℕ) (less more : ℕ) → less ≤ more → CanBegin p (take more text) → CanBegin p (take less text)
+front_begins : (p : ProblemParts) (text : List ℕ) (less more : ℕ) → less ≤ more → CanBeginCalling p (take more text) → CanBeginCalling p (take less text)
 front_begins p text less more within can =
     begins_shorter p (take less text) (drop less (take more text))
-    (subst (CanBegin p) (sym (take-append-drop less (take more text)) ∙ ap (λ l. l ++ drop less (take more text)) (take-take less more text within)) can)
+    (subst (CanBeginCalling p) (sym (take-append-drop less (take more text)) ∙ ap (λ l. l ++ drop less (take more text)) (take-take less more text within)) can)
 
 -- of two places the first is not the less
-not_less : (p : ProblemParts) (text : List ℕ) (place other : ℕ) → IsFirstWrong p text place → IsFirstWrong p text other → place < other → ⊥
+not_less : (p : ProblemParts) (text : List ℕ) (place other : ℕ) → IsFirstWrongByte p text place → IsFirstWrongByte p text other → place < other → ⊥
 not_less p text place other one two less = elim one.here [
   | inl at ↦ let within : other ≤ length text = two.within in absurd (omega arith)
   | inr stuck ↦ stuck (front_begins p text (place + 1) other (omega arith) two.before)
 ]
 
 -- a text goes wrong first at one place
-pub one_place : (p : ProblemParts) (text : List ℕ) (place other : ℕ) → IsFirstWrong p text place → IsFirstWrong p text other → place ≡ other
+pub one_place : (p : ProblemParts) (text : List ℕ) (place other : ℕ) → IsFirstWrongByte p text place → IsFirstWrongByte p text other → place ≡ other
 one_place p text place other one two = elim (cases_lt place other) [
   | inl less ↦ absurd (not_less p text place other one two less)
   | inr within ↦ elim (cases_lt other place) [ inl less ↦ absurd (not_less p text other place two one less) | inr also ↦ omega arith ]
@@ -48,7 +48,7 @@ one_place p text place other one two = elim (cases_lt place other) [
 
 -- what reading tells of a calling's text
 pub accepted : (p : ProblemParts) → IsSound p → (text : List ℕ) (r : Result (List ℕ) CallingFault) → Reads p text r
-    → (calling : List ℕ) → IsTextOf p text calling → (r ≡ Ok calling) ⊎ (r ≡ Err fault.NoMemory)
+    → (calling : List ℕ) → IsCallingText p text calling → (r ≡ Ok calling) ⊎ (r ≡ Err fault.NoMemory)
 accepted p sound text (Ok other) reads calling is =
     inl (ap Ok (one_calling p sound other calling reads.readable.steps is.readable.steps (reads.is ∙ sym is.is)))
 accepted p sound text (Err (fault.At place)) reads calling is = absurd (reads.none calling is)
@@ -56,7 +56,7 @@ accepted p sound text (Err fault.NoMemory) reads calling is = inr refl
 
 module _ (p : ProblemParts) (sound : IsSound p) where
   -- what comes after the steps of a calling whose text begins with theirs
-  later : (steps tail calling : List ℕ) → HasSteps p steps → IsTextOf p (calling_text p steps ++ tail) calling
+  later : (steps tail calling : List ℕ) → HasSteps p steps → IsCallingText p (calling_text p steps ++ tail) calling
       → After (lead_text p) (λ step. step < length p.leads) (lead_width p) (some_width p) (wide p) (one_lead p sound) steps calling tail
   later steps tail calling known is =
       after (lead_text p) (λ step. step < length p.leads) (lead_width p) (some_width p) (wide p) (one_lead p sound) steps calling tail known is.readable.steps is.is
@@ -80,7 +80,7 @@ module _ (p : ProblemParts) (sound : IsSound p) where
 
   -- a calling of the greatest number of steps does not go on
   too_long : (steps tail calling : List ℕ) → HasSteps p steps → length steps ≡ most_leads → 0 < length tail
-      → IsTextOf p (calling_text p steps ++ tail) calling → ⊥
+      → IsCallingText p (calling_text p steps ++ tail) calling → ⊥
   too_long steps tail calling known full some is =
       let rest = later steps tail calling known is in
       by rest.rest (rest.is) (rest.text)
@@ -108,10 +108,10 @@ module _ (p : ProblemParts) (sound : IsSound p) where
 
   -- the text goes on after the greatest number of steps
   pub too_many : (text steps : List ℕ) (place : ℕ) → IsReadTo p text steps place → length steps ≡ most_leads → place < length text
-      → IsFirstWrong p text place
+      → IsFirstWrongByte p text place
   too_many text steps place so_far full inside = record {
     none = λ calling is. too_long steps (drop place text) calling so_far.known full (some_left text place inside)
-        (subst (λ l. IsTextOf p l calling) (split text steps place so_far) is);
+        (subst (λ l. IsCallingText p l calling) (split text steps place so_far) is);
     within = omega arith;
     before = record {
       calling = steps;
@@ -123,11 +123,11 @@ module _ (p : ProblemParts) (sound : IsSound p) where
     };
     here = inr (λ can. too_long steps (take 1 (drop place text) ++ can.more) can.calling so_far.known full
         (omega (arith, length-append (take 1 (drop place text)) can.more, length-take 1 (drop place text), some_left text place inside))
-        (subst (λ l. IsTextOf p l can.calling) (split_front text steps can.more place 1 so_far) can.begins));
+        (subst (λ l. IsCallingText p l can.calling) (split_front text steps can.more place 1 so_far) can.begins));
   }
 
   -- nothing is read of no text
-  pub no_text : (text : List ℕ) → length text ≡ 0 → IsFirstWrong p text 0
+  pub no_text : (text : List ℕ) → length text ≡ 0 → IsFirstWrongByte p text 0
   no_text text none = record {
     none = λ calling is.
         let nil : calling ≡ [] = none_from_text (lead_text p) (λ step. step < length p.leads) (lead_width p) (some_width p) (wide p) (one_lead p sound) calling (ap length is.is ∙ none) in
@@ -150,7 +150,7 @@ module _ (p : ProblemParts) (sound : IsSound p) where
   }
 
   -- the whole text is read
-  pub whole_text : (text steps : List ℕ) (place : ℕ) → IsReadTo p text steps place → length text ≤ place → 0 < length steps → IsTextOf p text steps
+  pub whole_text : (text steps : List ℕ) (place : ℕ) → IsReadTo p text steps place → length text ≤ place → 0 < length steps → IsCallingText p text steps
   whole_text text steps place so_far done some = record {
     readable = record { steps = so_far.known; some = omega arith; few = so_far.few };
     is = so_far.is ∙ take_all place text done;
@@ -194,14 +194,14 @@ module _ (p : ProblemParts) (sound : IsSound p) where
 
   -- a lead goes wrong after the steps read so far
   pub wrong_lead : (text steps : List ℕ) (place count : ℕ) → IsReadTo p text steps place → length steps < most_leads → place < length text
-      → LeadIsWrong p (drop place text) count → IsFirstWrong p text (place + count)
+      → LeadIsWrong p (drop place text) count → IsFirstWrongByte p text (place + count)
   wrong_lead text steps place count so_far few inside wrong =
       let left : length (drop place text) ≡ length text - place = length-drop place text in
       let within : count ≤ length (drop place text) = wrong.within in
       let before = wrong.before in
       record {
         none = λ calling is.
-            let rest = later steps (drop place text) calling so_far.known (subst (λ l. IsTextOf p l calling) (split text steps place so_far) is) in
+            let rest = later steps (drop place text) calling so_far.known (subst (λ l. IsCallingText p l calling) (split text steps place so_far) is) in
             elim (cases_lt count (length (drop place text))) [
               | inl more ↦ no_lead (drop place text) count wrong more (drop place text) rest.rest rest.known rest.text refl (some_left text place inside)
               | inr ends ↦ no_end (drop place text) count wrong ends (some_left text place inside) rest.rest rest.known rest.text
@@ -229,7 +229,7 @@ module _ (p : ProblemParts) (sound : IsSound p) where
               let sum : place + count + 1 ≡ place + (count + 1) = omega arith in
               let cut : take (place + count + 1) text ++ can.more ≡ calling_text p steps ++ (front ++ can.more) =
               ap (λ n. take n text ++ can.more) sum ∙ split_front text steps can.more place (count + 1) so_far in
-              let rest = later steps (front ++ can.more) can.calling so_far.known (subst (λ l. IsTextOf p l can.calling) cut can.begins) in
+              let rest = later steps (front ++ can.more) can.calling so_far.known (subst (λ l. IsCallingText p l can.calling) cut can.begins) in
               no_lead (drop place text) count wrong more (front ++ can.more) rest.rest rest.known rest.text
               (take_at front can.more (count + 1) long) (omega (arith, length-append front can.more, long)))
           | inr ends ↦ inl (omega arith)

@@ -12,20 +12,20 @@ pub record IsReadable (p : ProblemParts) (calling : List ℕ) : Type 0 where
   pub few : length calling ≤ most_leads
 
 -- the text of such a calling
-pub record IsTextOf (p : ProblemParts) (text calling : List ℕ) : Type 0 where
+pub record IsCallingText (p : ProblemParts) (text calling : List ℕ) : Type 0 where
   pub readable : IsReadable p calling
   pub is : calling_text p calling ≡ text
 
 -- some calling of 1 to 1,024 steps has a text that begins so
-pub record CanBegin (p : ProblemParts) (front : List ℕ) : Type 0 where
+pub record CanBeginCalling (p : ProblemParts) (front : List ℕ) : Type 0 where
   pub calling : List ℕ
   pub more : List ℕ
-  pub begins : IsTextOf p (front ++ more) calling
+  pub begins : IsCallingText p (front ++ more) calling
 
 -- no calling of 1 to 1,024 steps has this text, and this is the place of the first byte that cannot be, or of
 -- the text's end
-pub record IsFirstWrong (p : ProblemParts) (text : List ℕ) (place : ℕ) : Type 0 where
-  pub none : (calling : List ℕ) → IsTextOf p text calling → ⊥
+pub record IsFirstWrongByte (p : ProblemParts) (text : List ℕ) (place : ℕ) : Type 0 where
+  pub none : (calling : List ℕ) → IsCallingText p text calling → ⊥
   pub within : place ≤ length text
-  pub before : CanBegin p (take place text)
-  pub here : (place ≡ length text) ⊎ (CanBegin p (take (place + 1) text) → ⊥)
+  pub before : CanBeginCalling p (take place text)
+  pub here : (place ≡ length text) ⊎ (CanBeginCalling p (take (place + 1) text) → ⊥)

@@ -8,7 +8,7 @@ ghost use Rattle.cr_model.specs.Touches.{Kept};
 ghost use Rattle.cr_model.specs.Nodes.{Covers, nodes_above, times_found};
 ghost use Rattle.cr_model.specs.Books.{IsBook, book_order, calling_text};
 ghost use Rattle.cr_model.specs.Sound.{IsSound};
-ghost use Rattle.cr_book.specs.Readings.{IsTextOf, IsFirstWrong};
+ghost use Rattle.cr_book.specs.Readings.{IsCallingText, IsFirstWrongByte};
 
 use cr_model::laws::covers_are_counted;
 
@@ -20,8 +20,8 @@ pub fn callings_differ_in_their_texts()
 
 /// A text that is no calling's goes wrong first at one place.
 pub fn one_place_is_first_wrong()
-    ensures { (p : ProblemParts) (text : List ℕ) (place other : ℕ) → IsFirstWrong p text place
-        → IsFirstWrong p text other → place ≡ other }
+    ensures { (p : ProblemParts) (text : List ℕ) (place other : ℕ) → IsFirstWrongByte p text place
+        → IsFirstWrongByte p text other → place ≡ other }
 {}
 
 /// What was found, none of it twice, is in strict order once it is sorted; and where it is what found touches

@@ -1,5 +1,28 @@
-//! The printed book: callings and books as texts, the summary of a book, found touches in the book's order,
-//! and callings read back.
+//! The printed book: callings and books as texts, the summary of a book, found touches in the book's order, and
+//! callings read back.
+//!
+//! The book of a problem is the list of its kept touches, by length and then by their steps. It is printed one
+//! touch a line, with the length first, and ends with the number of touches. A lead is printed as its method's
+//! letter, if there are several methods, and the letter of its call, `p` for none.
+//!
+//! - [`sort_found`]: found touches in the order of the book.
+//! - [`book_text`], [`calling_text`]: the text of a book, and of one calling.
+//! - [`book_pieces`]: the text of the book of touches in any order, sorted and written by several threads.
+//! - [`summary_text`]: the numbers of touches by length.
+//! - [`read_calling`]: the calling whose text this is, or the first byte that cannot be ([`CallingFault`]).
+//!
+//! Each takes memory for what it gives, and fails only where there is none; `read_calling` also where the text is
+//! no calling.
+//!
+//! ```rust
+//! // `problem` is Plain Bob Minimus.
+//! let mut found = Vec::new(alloc);
+//! found.push(read_calling(alloc, &problem, b"ppp")?)?;
+//!
+//! let sorted = sort_found(alloc, &problem, found)?;
+//! let text = book_text(alloc, &problem, &sorted)?;
+//! assert_eq!(rt; text.as_slice(), "24 ppp\ntouches 1\n".as_bytes());
+//! ```
 #![tactic(auto)]
 
 mod fault;

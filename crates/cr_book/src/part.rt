@@ -1,4 +1,4 @@
-//! Parts of lists.
+//! Parts of lists, by their first place and their end.
 
 /// A part of a list, from a place up to another.
 #[derive(Clone, Copy)]

@@ -4,7 +4,7 @@ ghost use Rattle.std.specs.Prelude.{◌≡◌, ◌<◌, ◌≤◌, ◌⊎◌, �
 ghost use Rattle.cr_book.specs.declared.fault.CallingFault.TheVariants as fault;
 ghost use Rattle.cr_model.specs.Limits.{most_leads};
 ghost use Rattle.cr_model.specs.Sound.{IsSound};
-ghost use Rattle.cr_book.specs.Readings.{IsTextOf};
+ghost use Rattle.cr_book.specs.Readings.{IsCallingText};
 ghost use Rattle.cr_book.specs.Reads.{Reads};
 ghost use Rattle.cr_book.specs.Leads.{lead_width, LeadReads};
 
@@ -18,7 +18,7 @@ use std::alloc::Global;
 /// byte that cannot be, or of the text's end, exactly where it is the text of none; and where no memory is left.
 pub fn read_calling(alloc: Global, problem: &Problem, text: &[u8]) -> Result<Calling, CallingFault>
     ensures reads { Reads problem.now text.now result }
-    ensures accepts { (calling : List ℕ) → IsTextOf problem.now text.now calling
+    ensures accepts { (calling : List ℕ) → IsCallingText problem.now text.now calling
         → (result ≡ Ok calling) ⊎ (result ≡ Err fault.NoMemory) }
 {
     let width = width_of(problem);

@@ -1,4 +1,4 @@
-//! The desk.
+//! The desk: how it is opened and closed, and the work at a seat.
 
 ghost use Rattle.std.specs.Prelude.{◌≡◌, ◌≤◌, [], length, map, sum_by, vec_len, All, IfOk, IfSome};
 ghost use Rattle.std.specs.List.{range_with_len};

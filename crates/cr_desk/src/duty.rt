@@ -1,4 +1,4 @@
-//! What a worker is to do.
+//! What a worker that asked for a job is to do.
 
 use cr_board::Ticket;
 

@@ -1,4 +1,4 @@
-//! What the lock keeps.
+//! What a desk keeps under its lock: the board, and the book of the ledger.
 
 ghost use Rattle.std.specs.Prelude.{◌≡◌, ◌+◌, ◌<◌, ◌≤◌, cond, nat_lt, length, IfOk, IfSome, OnOk, OnErr};
 ghost use Rattle.cr_node.specs.Work.{IsJob};

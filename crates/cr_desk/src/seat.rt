@@ -1,4 +1,4 @@
-//! Seats at a desk.
+//! Seats at a desk, each with its share of the ledger.
 
 ghost use Rattle.std.specs.Prelude.{◌≡◌, ◌+◌, ◌<◌, map, sum_by, vec_len, All, IfOk};
 ghost use Rattle.std.specs.List.{range_with_len};

@@ -17,7 +17,7 @@ use Rattle.cr_model.specs.Dead.{parts_of, turn_free}
 use Rattle.cr_model.specs.OneTurn.{touch_of}
 use Rattle.cr_model.specs.Sound.{IsSound}
 use Rattle.cr_model.specs.Touches.{Wanted, IsRotation, Kept}
-use Rattle.cr_model.specs.Turning.{IsLeastRotation}
+use Rattle.cr_model.specs.LeastRotations.{IsLeastRotation}
 use Rattle.cr_model.proofs.Below.{words, words_length, some_parts}
 use Rattle.cr_model.proofs.Parts.{first_word}
 use Rattle.cr_prune.proofs.Leads.{leads_differ}
@@ -42,7 +42,7 @@ module _ (p : ProblemParts) (node : List ℕ) where
   pub asked : IsSound p → ((calling : List ℕ) → turn_free p.query ≡ true → Wanted p calling → Kept p calling ↔ IsLeastRotation (part_of p calling))
       → Kept p (touch_of p node) → MayBeKept p node
   asked sound least kept = record {
-    home = (λ none. kept.wanted.touch.some (ap (touch_of p) none ∙ no_steps 0 (parts_of p)), kept.wanted.touch.home);
+    round = (λ none. kept.wanted.touch.some (ap (touch_of p) none ∙ no_steps 0 (parts_of p)), kept.wanted.touch.round);
     long = subst (λ (n : ℕ). p.query.min ≤ℤ pos n) (words_length p 0 (parts_of p) node) kept.wanted.meets.long;
     counts = (kept.wanted.meets.counts, kept.wanted.meets.method_counts);
     least = λ free. subst IsLeastRotation (part_is (parts_of p) node (some_parts p sound)) ((least (touch_of p node) free kept.wanted).0 kept);
@@ -79,7 +79,7 @@ module _ (p : ProblemParts) (node : List ℕ) where
       let long : length_of p (touch_of p node) ≡ parts_of p * length_of p node = words_length p 0 (parts_of p) node in
       record {
         steps = touch_has_steps p node valid.steps;
-        touch = record { some = touch_has_some sound may.home.0; home = may.home.1; differ = differ };
+        touch = record { some = touch_has_some sound may.round.0; round = may.round.1; differ = differ };
         meets = record {
           long = subst (λ (n : ℕ). p.query.min ≤ℤ pos n) (sym long) may.long;
           short = omega (arith, long, few_changes p node sound valid);

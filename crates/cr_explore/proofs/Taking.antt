@@ -14,7 +14,7 @@ abbrev pub so_far : List (List ℕ) → List (List ℕ) → ℕ → Searched
 so_far found rest used = record { found = found; rest = rest; used = used }
 
 -- the last node that is left was taken, and the path went there, whose problem is now told as q
-pub record Went (p : ProblemParts) (most : ℕ) (job : List (List ℕ)) (before : Place) (from : List ℕ) (q : ProblemParts) (left base next : ℕ) (to : List ℕ) : Type 0 where
+pub record RunProgress (p : ProblemParts) (most : ℕ) (job : List (List ℕ)) (before : Place) (from : List ℕ) (q : ProblemParts) (left base next : ℕ) (to : List ℕ) : Type 0 where
   pub problem : q ≡ p
   pub place : IsPlace q (place_at 0 base next) to
   pub inside : left ≤ length job

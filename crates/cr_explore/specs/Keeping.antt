@@ -5,12 +5,12 @@ use Rattle.cr_model.specs.Problems.{ProblemParts}
 use Rattle.cr_model.specs.Callings.{length_of, head_of}
 use Rattle.cr_model.specs.Dead.{parts_of, turn_free}
 use Rattle.cr_model.specs.OneTurn.{touch_of}
-use Rattle.cr_model.specs.Turning.{IsLeastRotation}
+use Rattle.cr_model.specs.LeastRotations.{IsLeastRotation}
 use Rattle.cr_query.specs.Meeting.{MeetsCounts, MeetsMethodCounts}
 
--- the node has steps, and its touch comes home, is long enough and meets the counts. Where all rotations of a touch meet the query, or none, the node is the least of its rotations
+-- the node has steps, and its touch comes round, is long enough and meets the counts. Where all rotations of a touch meet the query, or none, the node is the least of its rotations
 pub record MayBeKept (p : ProblemParts) (node : List ℕ) : Type 0 where
-  pub home : (node ≢ []) × (head_of p (touch_of p node) ≡ rounds p.stage)
+  pub round : (node ≢ []) × (head_of p (touch_of p node) ≡ rounds p.stage)
   pub long : p.query.min ≤ℤ pos (parts_of p * length_of p node)
   pub counts : MeetsCounts p (touch_of p node) × MeetsMethodCounts p (touch_of p node)
   pub least : turn_free p.query ≡ true → IsLeastRotation node

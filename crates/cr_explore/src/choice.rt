@@ -1,4 +1,4 @@
-//! The choice of a search.
+//! The choice of a search, by the size of the falseness table.
 
 ghost use Rattle.std.specs.Prelude.{◌≡◌, IfOk};
 ghost use Rattle.cr_explore.specs.Searches.{searched, HasTableWhereItFits};
@@ -37,8 +37,10 @@ pub fn make_search(
 {
     let leads = LeadTable::new(alloc, problem)?;
     match FalseTable::new(rt, alloc, &leads, MOST_FALSE_ROWS)? {
-        Built::Wide(_) => Ok(Search::Rows(RowSearch::new(alloc, problem)?)),
-        Built::Table(table) => Ok(Search::Table(TableSearch::new(alloc, problem, table)?)),
+        Built::Wide(_) => Ok(Search::Rows(RowSearch::with_leads(alloc, problem, leads)?)),
+        Built::Table(table) => Ok(Search::Table(TableSearch::with_leads(
+            alloc, problem, leads, table,
+        )?)),
     }
 }
 

@@ -9,12 +9,12 @@ ghost use Rattle.cr_model.specs.Nodes.{IsValid};
 ghost use Rattle.cr_model.specs.OneTurn.{touch_of};
 ghost use Rattle.cr_model.specs.Sound.{IsSound};
 ghost use Rattle.cr_model.specs.Touches.{Kept};
-ghost use Rattle.cr_model.specs.Turning.{IsLeastRotation};
+ghost use Rattle.cr_model.specs.LeastRotations.{IsLeastRotation};
 ghost use Rattle.cr_query.specs.Meeting.{MeetsCounts, MeetsMethodCounts};
 ghost use Rattle.cr_path.specs.Numbers.{IsNumbered};
 ghost use Rattle.cr_explore.specs.Keeping.{MayBeKept, IsToldByPatterns};
 
-use crate::homes::is_long_enough;
+use crate::coming_round::is_long_enough;
 use crate::standing::Standing;
 use crate::touches::touch_of;
 use cr_leads::LeadTable;
@@ -26,7 +26,7 @@ use cr_query::{is_kept, turn_free};
 use cr_row::NoMemory;
 use std::alloc::Global;
 
-/// Whether the touch of a walk's node is kept. Where the node does not come home, or its touch is too short, misses a
+/// Whether the touch of a walk's node is kept. Where the node does not come round, or its touch is too short, misses a
 /// count or is not the least of its rotations, nothing is rung. Where a row of the touch stands twice, or all rotations
 /// of a touch meet the query or none, half of the further parts are rung at most, and no memory is taken. Err where no
 /// memory is left.
@@ -73,8 +73,8 @@ pub fn is_numbered_touch_kept<const WIDTH: usize, const COUNTS: usize, const STE
     requires valid { IsValid problem.now walk.now.node }
     ensures { IfOk result (λ kept. IsTrue kept ↔ Kept problem.now (touch_of problem.now walk.now.node)) }
 {
-    // Few nodes come home, which is at hand.
-    if !walk.comes_home() {
+    // Few nodes come round, which is at hand.
+    if !walk.comes_round() {
         return Ok(false);
     }
     if is_told_by_patterns(problem) {
@@ -123,20 +123,20 @@ fn may_be_kept<W: Standing>(problem: &Problem, walk: &W) -> bool
     requires { W.problem_of walk.now ≡ problem.now }
     ensures { IsTrue result ↔ MayBeKept problem.now (W.node_of walk.now) }
 {
-    // Its length is at hand, and whether a node comes home takes a walk that rings a product for each part.
+    // Its length is at hand, and whether a node comes round takes a walk that rings a product for each part.
     is_long_enough(problem, walk.length())
-        && comes_home(problem, walk)
+        && comes_round(problem, walk)
         && meets_counts(problem, walk)
         && is_least_if_asked(problem, walk)
 }
 
 // Whether the node has steps, and its touch ends in rounds.
 #[inline(always)]
-fn comes_home<W: Standing>(problem: &Problem, walk: &W) -> bool
+fn comes_round<W: Standing>(problem: &Problem, walk: &W) -> bool
     requires { W.problem_of walk.now ≡ problem.now }
     ensures { IsTrue result ↔ ((W.node_of walk.now ≢ []) × (head_of problem.now (touch_of problem.now (W.node_of walk.now)) ≡ rounds problem.now.stage)) }
 {
-    walk.comes_home(problem) && has_steps(walk.steps())
+    walk.comes_round(problem) && has_steps(walk.steps())
 }
 
 #[inline(always)]
@@ -164,11 +164,11 @@ fn is_least_if_asked<W: Standing>(problem: &Problem, walk: &W) -> bool
     !turn_free(problem.query()) || walk.is_least()
 }
 
-// Whether the rows of the touch, which comes home, differ.
+// Whether the rows of the touch, which comes round, differ.
 #[inline(always)]
 fn has_different_rows<W: Standing>(walk: &W) -> bool
     requires sound { IsSound (W.problem_of walk.now) }
-    requires home { head_of (W.problem_of walk.now) (touch_of (W.problem_of walk.now) (W.node_of walk.now)) ≡ rounds (W.problem_of walk.now).stage }
+    requires round { head_of (W.problem_of walk.now) (touch_of (W.problem_of walk.now) (W.node_of walk.now)) ≡ rounds (W.problem_of walk.now).stage }
     ensures { IsTrue result ↔ AllDiffer (rows_of (W.problem_of walk.now) (touch_of (W.problem_of walk.now) (W.node_of walk.now))) }
 {
     !walk.has_repeat() && walk.parts_differ()

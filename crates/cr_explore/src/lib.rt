@@ -1,8 +1,30 @@
 //! The search of a job, turn by turn.
+//!
+//! A turn takes one node: its touch is found if it is kept, and its children that are not dead are put in its
+//! place. The search of a problem takes turns on a job until nothing of it is left, or as many as it may. A
+//! [`Path`] goes from node to node: by numbers where those have room, and else by ringing each lead. All searches
+//! of a problem find and leave the same.
+//!
+//! - [`make_search`]: the search of a problem, which is an `Explorer`. It makes the tables, and takes their memory.
+//! - [`RowSearch`], [`TableSearch`]: a search without a falseness table, and one with it. A [`Search`] is either.
+//! - [`take_turns`]: the loop of turns over any path, and what it found and left ([`Explored`]).
+//! - [`NumberPath`], [`WalkPath`]: the paths.
+//!
+//! ```rust
+//! // `problem` is Plain Bob Minimus, whose tree has four nodes.
+//! let search = make_search(&rt, alloc, &problem)?;
+//! let mut job = Vec::new(alloc);
+//! job.push(Node::root(alloc))?;
+//!
+//! let done = search.explore(alloc, &job, 4096)?;
+//! assert_eq!(rt; done.found().len(), 1);
+//! assert_eq!(rt; done.rest().len(), 0);
+//! assert_eq!(rt; done.used(), 4);
+//! ```
 #![tactic(auto)]
 
 mod choice;
-mod homes;
+mod coming_round;
 mod keeping;
 pub mod laws;
 mod number_path;

@@ -1,8 +1,10 @@
 //! The search over rows.
 
 ghost use Rattle.std.specs.Prelude.{◌≡◌, IfOk};
+ghost use Rattle.cr_leads.specs.Tables.{lead_table};
 
 use crate::tables::Tables;
+use cr_leads::LeadTable;
 use cr_model::Problem;
 use cr_node::{Done, Explorer, Node};
 use cr_row::NoMemory;
@@ -33,6 +35,19 @@ impl RowSearch {
         ensures { IfOk result (λ search. search ≡ problem.now) }
     {
         let tables = Tables::new(alloc, problem)?;
+        Ok(RowSearch { tables })
+    }
+
+    /// The search of a problem whose leads are rung. Err where no memory is left.
+    pub fn with_leads(
+        alloc: Global,
+        problem: &Problem,
+        leads: LeadTable,
+    ) -> Result<RowSearch, NoMemory>
+        requires { leads ≡ lead_table problem.now }
+        ensures { IfOk result (λ search. search ≡ problem.now) }
+    {
+        let tables = Tables::with_leads(alloc, problem, leads)?;
         Ok(RowSearch { tables })
     }
 }

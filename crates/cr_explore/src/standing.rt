@@ -6,10 +6,10 @@ ghost use Rattle.cr_model.specs.Problems.{ProblemParts};
 ghost use Rattle.cr_model.specs.Callings.{rows_of, length_of, head_of};
 ghost use Rattle.cr_model.specs.OneTurn.{touch_of};
 ghost use Rattle.cr_model.specs.Decided.{rows_differ};
-ghost use Rattle.cr_model.specs.Turning.{IsLeastRotation};
+ghost use Rattle.cr_model.specs.LeastRotations.{IsLeastRotation};
 ghost use Rattle.cr_query.specs.Meeting.{MeetsCounts, MeetsMethodCounts};
 
-use crate::homes::comes_home;
+use crate::coming_round::comes_round;
 use cr_model::Problem;
 use cr_path::NumberWalk;
 use cr_prune::Walk;
@@ -27,7 +27,7 @@ pub trait Standing {
         ensures { result.now ≡ node_of self.now };
 
     /// Whether the node's touch ends in rounds, where this is the problem.
-    fn comes_home(&self, problem: &Problem) -> bool
+    fn comes_round(&self, problem: &Problem) -> bool
         requires { problem_of self.now ≡ problem.now }
         ensures { IsTrue result ↔ (head_of problem.now (touch_of problem.now (node_of self.now)) ≡ rounds problem.now.stage) };
 
@@ -40,10 +40,10 @@ pub trait Standing {
     fn has_repeat(&self) -> bool
         ensures { result ≡ not (rows_differ (rows_of (problem_of self.now) (node_of self.now))) };
 
-    /// Whether all rows of the node's touch differ, where those of the node do and the touch comes home.
+    /// Whether all rows of the node's touch differ, where those of the node do and the touch comes round.
     fn parts_differ(&self) -> bool
         requires fresh { rows_differ (rows_of (problem_of self.now) (node_of self.now)) ≡ true }
-        requires home { head_of (problem_of self.now) (touch_of (problem_of self.now) (node_of self.now)) ≡ rounds (problem_of self.now).stage }
+        requires round { head_of (problem_of self.now) (touch_of (problem_of self.now) (node_of self.now)) ≡ rounds (problem_of self.now).stage }
         ensures { result ≡ rows_differ (rows_of (problem_of self.now) (touch_of (problem_of self.now) (node_of self.now))) };
 
     /// Whether no rotation of the node is less than it.
@@ -65,8 +65,8 @@ impl<'a> Standing for Walk<'a> {
         self.steps()
     }
 
-    fn comes_home(&self, problem: &Problem) -> bool {
-        comes_home(problem, self.head())
+    fn comes_round(&self, problem: &Problem) -> bool {
+        comes_round(problem, self.head())
     }
 
     fn length(&self) -> u64 {
@@ -102,8 +102,8 @@ impl<'a, const WIDTH: usize, const COUNTS: usize, const STEPS: usize> Standing
     }
 
     #[inline(always)]
-    fn comes_home(&self, _problem: &Problem) -> bool {
-        self.comes_home()
+    fn comes_round(&self, _problem: &Problem) -> bool {
+        self.comes_round()
     }
 
     #[inline(always)]

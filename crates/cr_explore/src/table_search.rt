@@ -6,6 +6,7 @@ ghost use Rattle.cr_leads.specs.Tables.{lead_table};
 
 use crate::tables::Tables;
 use cr_false::FalseTable;
+use cr_leads::LeadTable;
 use cr_model::Problem;
 use cr_node::{Done, Explorer, Node};
 use cr_row::NoMemory;
@@ -44,7 +45,22 @@ impl TableSearch {
         requires { IsFalseTable (lead_table problem.now) table }
         ensures { IfOk result (λ search. search ≡ problem.now) }
     {
-        let tables = Tables::new(alloc, problem)?;
+        let leads = LeadTable::new(alloc, problem)?;
+        TableSearch::with_leads(alloc, problem, leads, table)
+    }
+
+    /// The search of a problem whose leads are rung, with this table of them. Err where no memory is left.
+    pub fn with_leads(
+        alloc: Global,
+        problem: &Problem,
+        leads: LeadTable,
+        table: FalseTable,
+    ) -> Result<TableSearch, NoMemory>
+        requires leads { leads ≡ lead_table problem.now }
+        requires table { IsFalseTable (lead_table problem.now) table }
+        ensures { IfOk result (λ search. search ≡ problem.now) }
+    {
+        let tables = Tables::with_leads(alloc, problem, leads)?;
         Ok(TableSearch {
             tables,
             table,

@@ -31,7 +31,7 @@ const MOST_ROWS: u64 = 200_000;
 // How many bytes the records and numbers of all heads may take while they are made, 48 MB.
 const MOST_BYTES: u64 = 48_000_000;
 
-// How many bytes a lead takes then, and how many each of its rows: of all rows and of the telling ones, and for the
+// How many bytes a lead takes then, and how many each of its rows: of all rows and of the representative ones, and for the
 // leads in which a row stands.
 const RECORD_BYTES: u64 = 48;
 
@@ -65,30 +65,21 @@ impl Tables {
     pub fn new(alloc: Global, problem: &Problem) -> Result<Tables, NoMemory>
         ensures { IfOk result (λ tables. tables ≡ problem.now) }
     {
-        let leads = LeadTable::new(alloc, problem)?;
-        let most_heads = room_for_heads(&leads);
-        Tables::with_leads(alloc, problem, leads, most_heads)
+        Tables::with_leads(alloc, problem, LeadTable::new(alloc, problem)?)
     }
 
-    /// The tables of a problem, with no more heads by numbers than so many. Err where no memory is left.
-    pub fn with_room(alloc: Global, problem: &Problem, most_heads: u64) -> Result<Tables, NoMemory>
-        ensures { IfOk result (λ tables. tables ≡ problem.now) }
-    {
-        let leads = LeadTable::new(alloc, problem)?;
-        Tables::with_leads(alloc, problem, leads, most_heads)
-    }
-
-    fn with_leads(
+    /// The tables of a problem whose leads are rung. Err where no memory is left.
+    pub fn with_leads(
         alloc: Global,
         problem: &Problem,
         leads: LeadTable,
-        most_heads: u64,
     ) -> Result<Tables, NoMemory>
         requires { leads ≡ lead_table problem.now }
         ensures { IfOk result (λ tables. tables ≡ problem.now) }
     {
         let problem = problem.copy(alloc)?;
         let reach = reach_of(alloc, &problem, &leads)?;
+        let most_heads = room_for_heads(&leads);
         let numbers = NumberTable::new(alloc, &problem, &leads, &reach, most_heads)?;
         Ok(Tables {
             problem,

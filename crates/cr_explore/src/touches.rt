@@ -17,7 +17,7 @@ pub fn touch_of(alloc: Global, problem: &Problem, node: &[u8]) -> Result<Calling
     requires { IsValid problem.now node.now }
     ensures { IfOk result (λ calling. calling ≡ touch_of problem.now node.now) }
 {
-    Calling::repeated(alloc, node, parts_of(problem))
+    Calling::repeated(alloc, node, problem.parts() as usize)
 }
 
 /// Appends the touch of a node to others. Where that is the node itself, it is written where it stands. Err where no
@@ -32,7 +32,7 @@ pub fn add_touch(
     requires { IsValid problem.now node.now }
     ensures { IfOk result (λ _. touches.new.items ≡ touches.old.items ++ touch_of problem.now node.now ∷ []) }
 {
-    if parts_of(problem) == 1 {
+    if problem.parts() == 1 {
         return add_node(alloc, problem, node, touches);
     }
     touches.push(touch_of(alloc, problem, node)?)?;
@@ -55,14 +55,6 @@ fn add_node(
     touches.push(Calling::empty(alloc))?;
     touches[last].extend_from_slice(node)?;
     Ok(())
-}
-
-/// The number of parts.
-pub fn parts_of(problem: &Problem) -> usize
-    ensures is { result ≡ parts_of problem.now }
-    ensures sound { IsSound problem.now }
-{
-    problem.query().parts.unsigned_abs() as usize
 }
 
 /// The steps as a node. Err where no memory is left.

@@ -9,6 +9,7 @@ ghost use Rattle.cr_prune.specs.Walks.{walk_from};
 ghost use Rattle.cr_explore.specs.Searches.{IsReady};
 ghost use Rattle.cr_explore.specs.Stacks.{first_live, is_live};
 
+use cr_model::common_front;
 use cr_prune::laws::{the_longest_nodes_have_long_children, what_dies_unrung_is_dead};
 use cr_prune::{Pruner, Walk};
 
@@ -94,19 +95,4 @@ fn go_back_to(walk: &mut Walk, number: usize)
     while walk.steps().len() > number {
         walk.back();
     }
-}
-
-// With how many steps both begin.
-fn common_front(node: &[u8], other: &[u8]) -> usize
-    ensures within { result ≤ length node.now }
-    ensures inside { result ≤ length other.now }
-    ensures same { take result node.now ≡ take result other.now }
-{
-    let number = node.len().min(other.len());
-    for index in 0..number {
-        if node[index] != other[index] {
-            return index;
-        }
-    }
-    number
 }

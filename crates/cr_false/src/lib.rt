@@ -2,9 +2,9 @@
 #![tactic(auto)]
 
 mod built;
-mod counting;
 pub mod laws;
 mod sets;
+mod step_pairs;
 mod table;
 mod twice;
 

@@ -6,7 +6,7 @@ ghost use Rattle.cr_false.specs.Sets.{IsFalse, IsFalseTable, HasTwice};
 ghost use Rattle.cr_false.specs.Answers.{IsBuilt};
 
 use crate::built::Built;
-use crate::counting::{numbers_of, sets_of, total};
+use crate::step_pairs::{numbers_of, sets_of, total};
 use crate::twice::leads_with_twice;
 use cr_leads::LeadTable;
 use cr_model::limits::MOST_STEPS;

@@ -9,9 +9,9 @@ ghost use Rattle.cr_io.specs.Taken.{ReadTakes};
 ghost use Rattle.cr_io.specs.Grown.{WriteGrows, TakesSome, Shows};
 
 mod adapters;
-mod counting;
 mod reading;
 mod schedule;
+mod step_counts;
 mod stored;
 mod supplied;
 mod tally;
@@ -20,8 +20,8 @@ mod tests;
 mod writing;
 
 pub use adapters::{StdSink, StdSource};
-pub use counting::Steps;
 pub use reading::{ReadEnd, read_all, read_all_counted};
+pub use step_counts::Steps;
 pub use stored::{MemSink, SureSink};
 pub use supplied::{MemSource, SureSource};
 use thiserror::Error;

@@ -7,7 +7,7 @@ ghost use Rattle.cr_lanes.specs.Steps.{HeldAtMost};
 ghost use Rattle.cr_lanes.specs.Ends.{EndKnows, IsNewEnd, lent_more, taken_back};
 
 use crate::known::Known;
-use crate::rule::{Lane, Left, Lends, Puts, Returns, Takes};
+use crate::rule::{Lane, Lends, Puts, Remaining, Returns, Takes};
 use cr_row::NoMemory;
 use crossbeam_deque::{Pass, Stealer, Worker};
 use std::alloc::Global;
@@ -133,6 +133,6 @@ impl LaneEnd {
             room: _,
             count: _,
         } = self;
-        worker.len_as::<Left>() as u64
+        worker.len_as::<Remaining>() as u64
     }
 }

@@ -73,9 +73,9 @@ impl Join<Known> for Returns {
 }
 
 /// What is left once all passes are back.
-pub struct Left;
+pub struct Remaining;
 
-impl Lesson<u64, Known> for Left {
+impl Lesson<u64, Known> for Remaining {
     ghost use Rattle.cr_lanes.specs.Steps.{IsAllOf};
 
     ghost fact = { IsAllOf };

@@ -7,7 +7,7 @@ use Rattle.cr_model.specs.Problems.{ProblemParts}
 use Rattle.cr_model.specs.Callings.{changes_of, changes_of_all, lead_length, last_of, rows_of, HasSteps, AllDiffer, TrueTouch}
 use Rattle.cr_model.specs.Sound.{IsSound, sound_leads}
 use Rattle.cr_leads.specs.Tables.{TableParts, lead_table, lead_rows, HasLeads, IsTable, rows_of_step}
-use Rattle.cr_leads.specs.Rungs.{ComesHome, IsRung}
+use Rattle.cr_leads.specs.Rungs.{ComesRound, IsRung}
 use Rattle.cr_leads.specs.declared.rung.Rung.{Rung}
 use Rattle.cr_leads.proofs.LastRows.{some_rows}
 use Rattle.cr_leads.proofs.SoundTables.{length_rung, rows_of_one}
@@ -28,19 +28,19 @@ steps_have_rows p (step ∷ steps) all some =
     some_rows (rows_of p (step ∷ steps)) (omega (arith, first, long, rung))
 
 true_touch : (p : ProblemParts) (calling : List ℕ) → HaveChanges p calling
-    → TrueTouch p calling ↔ (ComesHome p calling × AllDiffer (rows_of p calling))
+    → TrueTouch p calling ↔ (ComesRound p calling × AllDiffer (rows_of p calling))
 true_touch p calling all = (
-  λ touch. (record { some = steps_have_rows p calling all touch.some; last = touch.home }, touch.differ),
+  λ touch. (record { some = steps_have_rows p calling all touch.some; last = touch.round }, touch.differ),
   λ told. record {
     some = λ none. told.0.some (ap (rows_of p) none);
-    home = told.0.last;
+    round = told.0.last;
     differ = told.1;
   },
 )
 
 -- the steps of a problem have changes
 pub sound_touch : (p : ProblemParts) (calling : List ℕ) → IsSound p → HasSteps p calling
-    → TrueTouch p calling ↔ (ComesHome p calling × AllDiffer (rows_of p calling))
+    → TrueTouch p calling ↔ (ComesRound p calling × AllDiffer (rows_of p calling))
 sound_touch p calling sound known = true_touch p calling (λ k d within. ((sound_leads p sound).each (get_or calling k d) (known k d within)).changes.some)
 
 -- and so do those of a table
@@ -57,23 +57,23 @@ table_changes table p calling right is known = λ k d within.
 pub told : (table : TableParts) (p : ProblemParts) (calling : List ℕ) (rung : Rung) → IsTable table
     → table ≡ lead_table p → HasLeads table calling
     → rung.rows.items ≡ rows_of p calling
-    → ((rung.home ≡ true) ↔ ((rung.rows.items ≢ []) × (last_of (rounds table.stage) rung.rows.items ≡ rounds table.stage)))
+    → ((rung.round ≡ true) ↔ ((rung.rows.items ≢ []) × (last_of (rounds table.stage) rung.rows.items ≡ rounds table.stage)))
     → ((rung.distinct ≡ true) ↔ AllDiffer rung.rows.items)
     → IsRung p calling rung
-told table p calling rung right table_is known is home distinct =
-    let comes : (rung.home ≡ true) ↔ ComesHome p calling = (
+told table p calling rung right table_is known is round distinct =
+    let comes : (rung.round ≡ true) ↔ ComesRound p calling = (
       λ h. record {
-        some = λ none. (home.0 h).0 (is ∙ none);
-        last = rw (is, table_is) at (home.0 h).1;
+        some = λ none. (round.0 h).0 (is ∙ none);
+        last = rw (is, table_is) at (round.0 h).1;
       },
-      λ h. home.1 (λ none. h.some (sym is ∙ none), rw (is, table_is) h.last),
+      λ h. round.1 (λ none. h.some (sym is ∙ none), rw (is, table_is) h.last),
     ) in
     let differ : (rung.distinct ≡ true) ↔ AllDiffer (rows_of p calling) =
     subst (λ rows. (rung.distinct ≡ true) ↔ AllDiffer rows) is distinct in
     let touch = true_touch p calling (table_changes table p calling right table_is known) in
     record {
       rows = is;
-      home = comes;
+      round = comes;
       distinct = differ;
       touch = (λ t. (comes.1 (touch.0 t).0, differ.1 (touch.0 t).1), λ b. touch.1 (comes.0 b.0, differ.0 b.1));
     }

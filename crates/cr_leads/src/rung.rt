@@ -8,7 +8,7 @@ pub struct Rung {
     /// The rows after each change. The rounds that the calling starts from are not among them.
     pub rows: Vec<Row>,
     /// Whether there is a last row and it is rounds.
-    pub home: bool,
+    pub round: bool,
     /// Whether all rows differ.
     pub distinct: bool,
 }

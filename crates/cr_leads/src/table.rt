@@ -119,18 +119,18 @@ impl LeadTable {
         rows_of_all(alloc, self, calling.steps())
     }
 
-    /// The rows of a calling, whether it comes home and whether they differ. Err where no memory is left.
+    /// The rows of a calling, whether it comes round and whether they differ. Err where no memory is left.
     pub fn ring(&self, alloc: Global, calling: &Calling) -> Result<Rung, NoMemory>
         requires { HasLeads self.now calling.now }
         ensures is { IfOk result (λ rung. (p : ProblemParts) → self.now ≡ lead_table p → IsRung p calling.now rung) }
         ensures rows { IfOk result (λ rung. AreRows self.now.stage rung.rows.items) }
     {
         let rows = rows_of_all(alloc, self, calling.steps())?;
-        let home = ends_in_rounds(&rows, self.stage());
+        let round = ends_in_rounds(&rows, self.stage());
         let distinct = rows_differ(alloc, &rows)?;
         Ok(Rung {
             rows,
-            home,
+            round,
             distinct,
         })
     }

@@ -121,7 +121,7 @@ fn heads_of_leads(rt: HostRuntime) -> Result<(), Fail> {
     Ok(())
 }
 
-// A calling, the number of its rows and the bells of its head, whether it comes home, and whether its rows differ.
+// A calling, the number of its rows and the bells of its head, whether it comes round, and whether its rows differ.
 #[derive(Clone, Copy)]
 struct Wanted(
     &'static str,
@@ -221,13 +221,13 @@ fn rung(alloc: Global, table: &LeadTable, calling: &Calling) -> Result<(Rung, Ro
 
 #[test]
 fn callings_rung(rt: HostRuntime) -> Result<(), Fail> {
-    for &Wanted(name, draft, steps, length, head, home, distinct) in CALLINGS {
+    for &Wanted(name, draft, steps, length, head, round, distinct) in CALLINGS {
         let table = table(rt.alloc(), &draft)?;
         let (rung, last) = rung(rt.alloc(), &table, &calling(rt.alloc(), steps)?)?;
         if rung.rows.len() != length || Row::of(head) != Some(last) {
             return Err(Fail::from(name));
         }
-        if rung.home != home || rung.distinct != distinct {
+        if rung.round != round || rung.distinct != distinct {
             return Err(Fail::from(name));
         }
     }

@@ -1,4 +1,4 @@
-//! The program: the top call over the standard streams.
+//! The program: the top call over the standard streams, and its exit status.
 #![tactic(auto)]
 
 ghost use Rattle.std.specs.Prelude.{◌≡◌};

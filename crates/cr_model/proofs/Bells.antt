@@ -53,10 +53,10 @@ module _ (laws : RowLaws) where
   -- what g does h undoes
   pub undone : (n : ℕ) (h g row : List ℕ) → IsRowOf n g → product h g ≡ rounds n → IsRowOf n row
       → product h (product g row) ≡ row
-  undone n h g row mid home is =
-      sym (laws.associates h g row is.is (mid.long ∙ sym is.long)) ∙ ap (λ l. product l row) (home ∙ ap rounds (sym is.long)) ∙ laws.rounds_left row is.is
+  undone n h g row mid round is =
+      sym (laws.associates h g row is.is (mid.long ∙ sym is.long)) ∙ ap (λ l. product l row) (round ∙ ap rounds (sym is.long)) ∙ laws.rounds_left row is.is
 
   -- a row that is undone on one side is undone on the other
   pub undone_back : (n : ℕ) (h g : List ℕ) → IsRowOf n h → IsRowOf n g → product h g ≡ rounds n → product g h ≡ rounds n
-  undone_back n h g one two home =
-      (laws.one_side h g one.is two.is (one.long ∙ sym two.long) (home ∙ ap rounds (sym one.long))).left ∙ ap rounds one.long
+  undone_back n h g one two round =
+      (laws.one_side h g one.is two.is (one.long ∙ sym two.long) (round ∙ ap rounds (sym one.long))).left ∙ ap rounds one.long

@@ -15,7 +15,7 @@ use Rattle.cr_model.specs.Queries.{cap, part_cap, repeated, changes_of_method}
 use Rattle.cr_model.specs.Nodes.{part_of, IsAbove}
 use Rattle.cr_model.specs.Touches.{Kept}
 use Rattle.cr_model.specs.Sound.{IsSound, sound_leads, sound_parts}
-use Rattle.cr_model.specs.Dead.{parts_of, left_of, leads_left}
+use Rattle.cr_model.specs.Dead.{parts_of, remaining_of, leads_left}
 use Rattle.cr_model.proofs.Measured.{change_count_is, shortest_some}
 use Rattle.cr_model.proofs.Parts.{part_repeated}
 use Rattle.cr_model.proofs.Prefixes.{prefix_iff}
@@ -157,7 +157,7 @@ module _ (p : ProblemParts) (node calling : List ℕ) (sound : IsSound p) (is : 
 
   pub rest_few : length is.rest ≤ leads_left p node
   rest_few =
-      le-div (length is.rest) (left_of p node) (shortest p) (some_shortest p sound)
+      le-div (length is.rest) (remaining_of p node) (shortest p) (some_shortest p sound)
       (omega (arith, shortest_leads p is.rest rest_steps, part_short, lengths_on p node is.rest))
 
   -- and in the whole

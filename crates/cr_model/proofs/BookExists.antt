@@ -16,7 +16,7 @@ use Rattle.cr_model.specs.Books.{IsBook, book_order}
 use Rattle.cr_model.specs.Sound.{IsSound, sound_leads}
 use Rattle.cr_model.proofs.Counting.{covers_by_count, reached_above}
 use Rattle.cr_model.proofs.KeptTest.{is_kept_decided}
-use Rattle.cr_model.proofs.Listing.{callings, calling_listed, in_order_those}
+use Rattle.cr_model.proofs.Listed.{callings, calling_listed, in_order_those}
 use Rattle.cr_model.proofs.Rotations.{same_when_equal}
 
 -- the book's order is one

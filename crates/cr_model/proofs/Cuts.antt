@@ -19,13 +19,13 @@ use Rattle.cr_model.specs.Queries.{cap, part_cap, IsWithin, leads_marked, leads_
 use Rattle.cr_model.specs.Sound.{IsSound}
 use Rattle.cr_model.specs.Decided.{rows_differ}
 use Rattle.cr_model.specs.Levels.{head_from, at_least}
-use Rattle.cr_model.specs.Dead.{parts_of, leads_left, is_long, is_self_false, is_again, has_rounds, is_home, is_far, above_com, below_com, is_too_many, is_too_few}
+use Rattle.cr_model.specs.Dead.{parts_of, leads_left, is_long, is_self_false, is_again, has_rounds, is_round, is_far, above_com, below_com, is_too_many, is_too_few}
 use Rattle.cr_model.proofs.Bells.{RowLaws}
 use Rattle.cr_model.proofs.Below.{words, words_length, words_counted, com_onward, com_joined_least, words_com_least, words_com_most, some_parts, Below, shortest_leads, rows_counted, part_short, rest_few, more_steps, more_rows, more_length}
 use Rattle.cr_model.proofs.Deciding.{rows_differ_decided, one_less_differs}
 use Rattle.cr_model.proofs.InOrder.{contains_cases, contains_more, none_held}
 use Rattle.cr_model.proofs.LeastLeads.{at_least_leads}
-use Rattle.cr_model.proofs.Listing.{held_first}
+use Rattle.cr_model.proofs.Listed.{held_first}
 use Rattle.cr_model.proofs.NewRows.{listed_decided}
 use Rattle.cr_model.proofs.Ringing.{head_on, lengths_on, last_of-append}
 use Rattle.cr_model.proofs.Turned.{rows_joined}
@@ -121,11 +121,11 @@ module _ (p : ProblemParts) (node calling : List ℕ) (sound : IsSound p) (is : 
   all_rows = subst AllDiffer (more_rows p node calling sound is) is.kept.wanted.touch.differ
 
   last_row : last_of (rounds p.stage) (rows_of p node ++ rows_from (head_of p node) (changes_of_all p is.more)) ≡ rounds p.stage
-  last_row = ap (last_of (rounds p.stage)) (sym (more_rows p node calling sound is)) ∙ is.kept.wanted.touch.home
+  last_row = ap (last_of (rounds p.stage)) (sym (more_rows p node calling sound is)) ∙ is.kept.wanted.touch.round
 
   -- rounds comes before the node's last row
-  not_home_before : has_rounds p (take (length (rows_of p node) - 1) (rows_of p node)) ≡ true → ⊥
-  not_home_before h =
+  not_round_before : has_rounds p (take (length (rows_of p node) - 1) (rows_of p node)) ≡ true → ⊥
+  not_round_before h =
       let n : ℕ = length (rows_of p node) - 1 in
       let rows : List (List ℕ) = rows_of p node in
       let after_it : List (List ℕ) = rows_from (head_of p node) (changes_of_all p is.more) in
@@ -141,8 +141,8 @@ module _ (p : ProblemParts) (node calling : List ℕ) (sound : IsSound p) (is : 
   whole_length = ap (length_of p) is.whole ∙ words_length p 0 (parts_of p) (node ++ is.rest)
 
   -- rounds comes last, and there are more parts
-  not_home_last : has_rounds p (drop (length (rows_of p node) - 1) (rows_of p node)) ≡ true → 1 < parts_of p → ⊥
-  not_home_last h several =
+  not_round_last : has_rounds p (drop (length (rows_of p node) - 1) (rows_of p node)) ≡ true → 1 < parts_of p → ⊥
+  not_round_last h several =
       let n : ℕ = length (rows_of p node) - 1 in
       let rows : List (List ℕ) = rows_of p node in
       let after_it : List (List ℕ) = rows_from (head_of p node) (changes_of_all p is.more) in
@@ -163,20 +163,20 @@ module _ (p : ProblemParts) (node calling : List ℕ) (sound : IsSound p) (is : 
       last_once (rounds p.stage) rows after_it all_rows some (subst (Contains rows) (sym last_row) all)
 
   -- Home
-  pub not_home : is_home p node ≡ true → ⊥
-  not_home h = elim (or_cases (has_rounds p (take (length (rows_of p node) - 1) (rows_of p node))) (has_rounds p (drop (length (rows_of p node) - 1) (rows_of p node)) && nat_lt 1 (parts_of p)) h) [
-    | inl before ↦ not_home_before before
+  pub not_round : is_round p node ≡ true → ⊥
+  not_round h = elim (or_cases (has_rounds p (take (length (rows_of p node) - 1) (rows_of p node))) (has_rounds p (drop (length (rows_of p node) - 1) (rows_of p node)) && nat_lt 1 (parts_of p)) h) [
+    | inl before ↦ not_round_before before
     | inr last ↦
         let both = and_parts (has_rounds p (drop (length (rows_of p node) - 1) (rows_of p node))) (nat_lt 1 (parts_of p)) last in
-        not_home_last both.0 (ltb-true 1 (parts_of p) both.1)
+        not_round_last both.0 (ltb-true 1 (parts_of p) both.1)
   ]
 
   -- Far
   pub not_far : ((c : Places) (r : List ℕ) → after c (after c r) ≡ r) → (most : ℕ) → is_far p most node ≡ true → ⊥
   not_far twice most h =
       let far : cap p < length_of p node + shortest p * at_least p most (head_of p node) = ltb-true (cap p) (length_of p node + shortest p * at_least p most (head_of p node)) h in
-      let home : head_from (head_of p node) (changes_of_all p is.more) ≡ rounds p.stage = sym (head_on p node is.more) ∙ ap (head_of p) (sym is.onward) ∙ is.kept.wanted.touch.home in
-      let few : at_least p most (head_of p node) ≤ length is.more = at_least_leads twice p most (head_of p node) is.more (more_steps p node calling sound is) home in
+      let round : head_from (head_of p node) (changes_of_all p is.more) ≡ rounds p.stage = sym (head_on p node is.more) ∙ ap (head_of p) (sym is.onward) ∙ is.kept.wanted.touch.round in
+      let few : at_least p most (head_of p node) ≤ length is.more = at_least_leads twice p most (head_of p node) is.more (more_steps p node calling sound is) round in
       let times : shortest p * at_least p most (head_of p node) ≤ shortest p * length is.more = mul-le-mul_left (shortest p) few in
       let short : length_of p calling ≤ cap p = is.kept.wanted.meets.short in
       absurd (omega (arith, shortest_leads p is.more (more_steps p node calling sound is), mul_comm (shortest p) (length is.more), more_length p node calling sound is))

@@ -11,7 +11,7 @@ use Rattle.cr_model.specs.Sound.{IsSound}
 use Rattle.cr_model.specs.Dead.{HasNoneBelow, is_turned_back, turn_free, turns_back, holds, reasons, dead, IsFirstReason}
 use Rattle.cr_model.proofs.Bells.{RowLaws}
 use Rattle.cr_model.proofs.Below.{below}
-use Rattle.cr_model.proofs.Cuts.{not_long, not_self_false, not_again, not_home, not_far, not_too_many, not_too_few}
+use Rattle.cr_model.proofs.Cuts.{not_long, not_self_false, not_again, not_round, not_far, not_too_many, not_too_few}
 use Rattle.cr_model.proofs.TurnedBack.{turns_back_decided, lesser_rotation, wanted_turned}
 
 -- TurnsBack
@@ -29,7 +29,7 @@ module _ (laws : RowLaws) (twice : (c : Places) (r : List ℕ) → after c (afte
   none_below reason.Long h calling kept above = not_long p node calling sound (below p node calling sound kept above) h
   none_below reason.SelfFalse h calling kept above = not_self_false p node calling sound (below p node calling sound kept above) laws h
   none_below reason.Again h calling kept above = not_again p node calling sound (below p node calling sound kept above) h
-  none_below reason.Home h calling kept above = not_home p node calling sound (below p node calling sound kept above) h
+  none_below reason.Home h calling kept above = not_round p node calling sound (below p node calling sound kept above) h
   none_below reason.Far h calling kept above = not_far p node calling sound (below p node calling sound kept above) twice most h
   none_below reason.TooMany h calling kept above = not_too_many p node calling sound (below p node calling sound kept above) h
   none_below reason.TooFew h calling kept above = not_too_few p node calling sound (below p node calling sound kept above) h

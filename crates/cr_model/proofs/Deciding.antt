@@ -55,7 +55,7 @@ has_leads_decided (step ∷ calling) = (λ _. λ e. absurd (cc), λ _. refl)
 -- the test of a true touch
 pub is_true_touch_decided : (p : ProblemParts) (calling : List ℕ) → Decides (is_true_touch p calling) (TrueTouch p calling)
 is_true_touch_decided p calling =
-    Decides-like (is_true_touch p calling) (λ h. record { some = h.0; home = h.1.0; differ = h.1.1 }) (λ touch. (touch.some, (touch.home, touch.differ)))
+    Decides-like (is_true_touch p calling) (λ h. record { some = h.0; round = h.1.0; differ = h.1.1 }) (λ touch. (touch.some, (touch.round, touch.differ)))
     (Decides-and (has_leads calling) _ (has_leads_decided calling)
     (Decides-and (bytes_eq (head_of p calling) (rounds p.stage)) _ (bytes_eq-Decides (head_of p calling) (rounds p.stage)) (rows_differ_decided (rows_of p calling))))
 

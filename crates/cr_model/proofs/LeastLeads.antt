@@ -119,10 +119,10 @@ module _ (twice : (c : Places) (r : List ℕ) → after c (after c r) ≡ r) (p 
       (λ k less. at_place k (omega arith) false (false_from_ne_true (is_listed (level p k) row) (λ h. none k (omega arith) ((level_is twice p k row).0 ((listed_decided (level p k) row).0 h)))))
       (λ inside. absurd (omega (arith, length-range_with_len 0 (depth p most + 1))))
 
-  -- so no calling of fewer leads leads home
+  -- so no calling of fewer leads leads to rounds
   pub at_least_leads : (calling : List ℕ) → HasSteps p calling → head_from row (changes_of_all p calling) ≡ rounds p.stage → at_least p most row ≤ length calling
-  at_least_leads calling steps home =
-      let (leads, few, is) = least_level twice p (length calling) (length calling) row (omega arith) (record { calling = calling; steps = steps; number = refl; home = home }) in
+  at_least_leads calling steps round =
+      let (leads, few, is) = least_level twice p (length calling) (length calling) row (omega arith) (record { calling = calling; steps = steps; number = refl; round = round }) in
       elim (cases_lt (depth p most) leads) [
         | inl beyond ↦ omega (arith, at_least_beyond (λ number less other. is.least number (omega arith) other.reached))
         | inr within ↦ omega (arith, at_least_level leads is within)

@@ -13,7 +13,7 @@ pub mod InOrder
 pub mod KeptTest
 pub mod LeastLeads
 pub mod LeastRotation
-pub mod Listing
+pub mod Listed
 pub mod Measured
 pub mod Minimus
 pub mod NewRows

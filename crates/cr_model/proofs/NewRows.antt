@@ -11,7 +11,7 @@ use Rattle.cr_model.specs.Callings.{AllDiffer}
 use Rattle.cr_model.specs.Levels.{row_before, rows_before, is_listed, new_rows}
 use Rattle.cr_model.proofs.Deciding.{one_more_differs, one_less_differs}
 use Rattle.cr_model.proofs.InOrder.{contains_cases, contains_more, none_held}
-use Rattle.cr_model.proofs.Listing.{held_first, held_mapped, held_joined, all_from_held}
+use Rattle.cr_model.proofs.Listed.{held_first, held_mapped, held_joined, all_from_held}
 
 -- the test of a row among some
 pub listed_decided : (rows : List (List ℕ)) (row : List ℕ) → Decides (is_listed rows row) (Contains rows row)

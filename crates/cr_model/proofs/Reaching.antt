@@ -5,53 +5,53 @@ use Rattle.std.proofs.lemmas.List.Elements.{All-nil, All-cons, All-head, All-tai
 use Rattle.cr_row.specs.Rows.{Places, rounds, after}
 use Rattle.cr_model.specs.Problems.{ProblemParts}
 use Rattle.cr_model.specs.Callings.{HasSteps, changes_of, changes_of_all, AllDiffer}
-use Rattle.cr_model.specs.Levels.{head_from, LeadsHome, IsLevel, rows_before, new_rows, Spread, further, spread, level, up_to_level}
+use Rattle.cr_model.specs.Levels.{head_from, LeadsToRounds, IsLevel, rows_before, new_rows, Spread, further, spread, level, up_to_level}
 use Rattle.cr_model.proofs.InOrder.{contains_cases, none_held}
-use Rattle.cr_model.proofs.Listing.{held_first}
+use Rattle.cr_model.proofs.Listed.{held_first}
 use Rattle.cr_model.proofs.NewRows.{held_or_not, new_rows_are, new_rows_differ, differ_joined, rows_before_are}
 use Rattle.cr_model.proofs.RingingBack.{head_onward, there_and_back, back_and_there}
 
--- no leads lead home from rounds alone
-none_lead_home : (p : ProblemParts) (row : List ℕ) → LeadsHome p 0 row → row ≡ rounds p.stage
-none_lead_home p row h = by h.calling h.number h.home
+-- no leads lead to rounds from rounds alone
+none_lead_to_rounds : (p : ProblemParts) (row : List ℕ) → LeadsToRounds p 0 row → row ≡ rounds p.stage
+none_lead_to_rounds p row h = by h.calling h.number h.round
   where
     by : (calling : List ℕ) → length calling ≡ 0 → head_from row (changes_of_all p calling) ≡ rounds p.stage → row ≡ rounds p.stage
-    by [] number home = home
-    by (step ∷ calling) number home = absurd (omega arith)
+    by [] number round = round
+    by (step ∷ calling) number round = absurd (omega arith)
 
-rounds_are_home : (p : ProblemParts) → LeadsHome p 0 (rounds p.stage)
-rounds_are_home p = record { calling = []; steps = All-nil (λ step. step < length p.leads); number = refl; home = refl }
+rounds_are_round : (p : ProblemParts) → LeadsToRounds p 0 (rounds p.stage)
+rounds_are_round p = record { calling = []; steps = All-nil (λ step. step < length p.leads); number = refl; round = refl }
 
 -- one lead more in front
-one_more_lead : (p : ProblemParts) (leads step : ℕ) (row : List ℕ) → step < length p.leads → LeadsHome p leads (head_from row (changes_of p step)) → LeadsHome p (suc leads) row
+one_more_lead : (p : ProblemParts) (leads step : ℕ) (row : List ℕ) → step < length p.leads → LeadsToRounds p leads (head_from row (changes_of p step)) → LeadsToRounds p (suc leads) row
 one_more_lead p leads step row inside h = record {
   calling = step ∷ h.calling;
   steps = All-cons (λ s. s < length p.leads) step h.calling inside h.steps;
   number = let number : length h.calling ≡ leads = h.number in omega arith;
-  home = head_onward row (changes_of p step) (changes_of_all p h.calling) ∙ h.home;
+  round = head_onward row (changes_of p step) (changes_of_all p h.calling) ∙ h.round;
 }
 
 -- and one less
-one_less_lead : (p : ProblemParts) (leads : ℕ) (row : List ℕ) → LeadsHome p (suc leads) row → (step : ℕ) × (step < length p.leads) × LeadsHome p leads (head_from row (changes_of p step))
-one_less_lead p leads row h = by h.calling h.steps h.number h.home
+one_less_lead : (p : ProblemParts) (leads : ℕ) (row : List ℕ) → LeadsToRounds p (suc leads) row → (step : ℕ) × (step < length p.leads) × LeadsToRounds p leads (head_from row (changes_of p step))
+one_less_lead p leads row h = by h.calling h.steps h.number h.round
   where
-    by : (calling : List ℕ) → HasSteps p calling → length calling ≡ suc leads → head_from row (changes_of_all p calling) ≡ rounds p.stage → (step : ℕ) × (step < length p.leads) × LeadsHome p leads (head_from row (changes_of p step))
-    by [] steps number home = absurd (omega arith)
-    by (step ∷ calling) steps number home = (
+    by : (calling : List ℕ) → HasSteps p calling → length calling ≡ suc leads → head_from row (changes_of_all p calling) ≡ rounds p.stage → (step : ℕ) × (step < length p.leads) × LeadsToRounds p leads (head_from row (changes_of p step))
+    by [] steps number round = absurd (omega arith)
+    by (step ∷ calling) steps number round = (
       step,
       All-head (λ s. s < length p.leads) step calling steps,
       record {
         calling = calling;
         steps = All-tail (λ s. s < length p.leads) step calling steps;
         number = omega arith;
-        home = sym (head_onward row (changes_of p step) (changes_of_all p calling)) ∙ home;
+        round = sym (head_onward row (changes_of p step) (changes_of_all p calling)) ∙ round;
       },
     )
 
 -- so far the rows of the last level and all rows up to it are listed
 record IsSpread (p : ProblemParts) (leads : ℕ) (so_far : Spread) : Type 0 where
   last : (row : List ℕ) → Contains so_far.last row ↔ IsLevel p leads row
-  all : (row : List ℕ) → Contains so_far.all row ↔ ((number : ℕ) × (number ≤ leads) × LeadsHome p number row)
+  all : (row : List ℕ) → Contains so_far.all row ↔ ((number : ℕ) × (number ≤ leads) × LeadsToRounds p number row)
   differ : AllDiffer so_far.all
 
 -- rounds alone
@@ -59,39 +59,39 @@ first_spread : (p : ProblemParts) → IsSpread p 0 (record { all = rounds p.stag
 first_spread p = record {
   last = λ row. (
     λ held. elim (contains_cases (rounds p.stage) row [] held) [
-      | inl e ↦ record { reached = subst (LeadsHome p 0) e (rounds_are_home p); least = λ fewer less home. absurd (omega arith) }
+      | inl e ↦ record { reached = subst (LeadsToRounds p 0) e (rounds_are_round p); least = λ fewer less round. absurd (omega arith) }
       | inr none ↦ absurd (none_held row none)
     ],
-    λ is. subst (Contains (rounds p.stage ∷ [])) (sym (none_lead_home p row is.reached)) (held_first (rounds p.stage) []),
+    λ is. subst (Contains (rounds p.stage ∷ [])) (sym (none_lead_to_rounds p row is.reached)) (held_first (rounds p.stage) []),
   );
   all = λ row. (
     λ held. elim (contains_cases (rounds p.stage) row [] held) [
-      | inl e ↦ (0, omega arith, subst (LeadsHome p 0) e (rounds_are_home p))
+      | inl e ↦ (0, omega arith, subst (LeadsToRounds p 0) e (rounds_are_round p))
       | inr none ↦ absurd (none_held row none)
     ],
-    λ h. let none : h.0 ≡ 0 = omega arith in subst (Contains (rounds p.stage ∷ [])) (sym (none_lead_home p row (subst (λ (n : ℕ). LeadsHome p n row) none h.2))) (held_first (rounds p.stage) []),
+    λ h. let none : h.0 ≡ 0 = omega arith in subst (Contains (rounds p.stage ∷ [])) (sym (none_lead_to_rounds p row (subst (λ (n : ℕ). LeadsToRounds p n row) none h.2))) (held_first (rounds p.stage) []),
   );
   differ = λ i j less inside. absurd (omega arith);
 }
 
 module _ (twice : (c : Places) (r : List ℕ) → after c (after c r) ≡ r) (p : ProblemParts) (leads : ℕ) (so_far : Spread) (is : IsSpread p leads so_far) where
-  -- a new row leads home by one lead more, and not sooner
+  -- a new row leads to rounds by one lead more, and not sooner
   next_is : (row : List ℕ) → Contains (new_rows so_far.all (rows_before p so_far.last)) row → IsLevel p (suc leads) row
   next_is row held =
       let both = (new_rows_are so_far.all (rows_before p so_far.last) row).0 held in
       let (after_it, step, at, inside, before) = (rows_before_are p so_far.last row).0 both.0 in
       let on : head_from row (changes_of p step) ≡ after_it = ap (λ r. head_from r (changes_of p step)) (sym before) ∙ back_and_there twice after_it (changes_of p step) in
       record {
-        reached = one_more_lead p leads step row inside (subst (LeadsHome p leads) (sym on) ((is.last after_it).0 at).reached);
-        least = λ fewer less home. both.1 ((is.all row).1 (fewer, omega arith, home));
+        reached = one_more_lead p leads step row inside (subst (LeadsToRounds p leads) (sym on) ((is.last after_it).0 at).reached);
+        least = λ fewer less round. both.1 ((is.all row).1 (fewer, omega arith, round));
       }
 
   -- and each such row is new
   is_next : (row : List ℕ) → IsLevel p (suc leads) row → Contains (new_rows so_far.all (rows_before p so_far.last)) row
   is_next row is_level =
-      let (step, inside, home) = one_less_lead p leads row is_level.reached in
+      let (step, inside, round) = one_less_lead p leads row is_level.reached in
       let on : IsLevel p leads (head_from row (changes_of p step)) = record {
-        reached = home;
+        reached = round;
         least = λ fewer less sooner. is_level.least (suc fewer) (omega arith) (one_more_lead p fewer step row inside sooner);
       } in
       (new_rows_are so_far.all (rows_before p so_far.last) row).1 (
@@ -116,8 +116,8 @@ module _ (twice : (c : Places) (r : List ℕ) → after c (after c r) ≡ r) (p 
               | inr many ↦ (let most : h.0 ≤ suc leads = h.1 in omega arith)
             ] in
             Contains-append_right so_far.all (new_rows so_far.all (rows_before p so_far.last)) row (is_next row (record {
-              reached = subst (λ (n : ℕ). LeadsHome p n row) later h.2;
-              least = λ fewer less home. new ((is.all row).1 (fewer, omega arith, home));
+              reached = subst (λ (n : ℕ). LeadsToRounds p n row) later h.2;
+              least = λ fewer less round. new ((is.all row).1 (fewer, omega arith, round));
             }))
       ],
     );
@@ -137,22 +137,22 @@ module _ (twice : (c : Places) (r : List ℕ) → after c (after c r) ≡ r) (p 
   level_is leads row = (spread_is leads).last row
 
   -- the rows up to it
-  pub up_to_level_is : (leads : ℕ) (row : List ℕ) → Contains (up_to_level p leads) row ↔ ((number : ℕ) × (number ≤ leads) × LeadsHome p number row)
+  pub up_to_level_is : (leads : ℕ) (row : List ℕ) → Contains (up_to_level p leads) row ↔ ((number : ℕ) × (number ≤ leads) × LeadsToRounds p number row)
   up_to_level_is leads row = (spread_is leads).all row
 
   -- each once
   pub up_to_level_differ : (leads : ℕ) → AllDiffer (up_to_level p leads)
   up_to_level_differ leads = (spread_is leads).differ
 
-  -- what leads home does so by a least number of leads
-  pub least_level : (most leads : ℕ) (row : List ℕ) → leads ≤ most → LeadsHome p leads row → (number : ℕ) × (number ≤ leads) × IsLevel p number row
-  least_level zero leads row few home = (leads, omega arith, record { reached = home; least = λ fewer less sooner. absurd (omega arith) })
-  least_level (suc most) leads row few home = elim (held_or_not (up_to_level p most) row) [
+  -- what leads to rounds does so by a least number of leads
+  pub least_level : (most leads : ℕ) (row : List ℕ) → leads ≤ most → LeadsToRounds p leads row → (number : ℕ) × (number ≤ leads) × IsLevel p number row
+  least_level zero leads row few round = (leads, omega arith, record { reached = round; least = λ fewer less sooner. absurd (omega arith) })
+  least_level (suc most) leads row few round = elim (held_or_not (up_to_level p most) row) [
     | inl held ↦
         let (number, less, sooner) = (up_to_level_is most row).0 held in
         elim (cases_lt leads number) [
-          | inl later ↦ least_level most leads row (omega arith) home
+          | inl later ↦ least_level most leads row (omega arith) round
           | inr earlier ↦ let (least, below, is) = least_level most number row less sooner in (least, omega arith, is)
         ]
-    | inr new ↦ (leads, omega arith, record { reached = home; least = λ fewer less sooner. new ((up_to_level_is most row).1 (fewer, omega arith, sooner)) })
+    | inr new ↦ (leads, omega arith, record { reached = round; least = λ fewer less sooner. new ((up_to_level_is most row).1 (fewer, omega arith, sooner)) })
   ]

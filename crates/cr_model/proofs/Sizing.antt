@@ -11,7 +11,7 @@ use Rattle.cr_model.specs.Callings.{changes_of, length_of}
 use Rattle.cr_model.specs.Queries.{part_cap}
 use Rattle.cr_model.specs.Nodes.{IsValid}
 use Rattle.cr_model.specs.Sound.{IsSound}
-use Rattle.cr_model.specs.Dead.{left_of, is_long, holds, dead}
+use Rattle.cr_model.specs.Dead.{remaining_of, is_long, holds, dead}
 use Rattle.cr_model.specs.Sizes.{child, children, live_children, size_within, size}
 use Rattle.cr_model.proofs.BookExists.{lead_some}
 use Rattle.cr_model.proofs.Ringing.{lengths_on}
@@ -65,11 +65,11 @@ none_there P (x ∷ xs) all never = absurd (never x (All-head P x xs all))
 
 module _ (p : ProblemParts) (most : ℕ) (sound : IsSound p) where
   -- where nothing is left, no child is live
-  no_live : (node : List ℕ) → left_of p node ≡ 0 → live_children p most node ≡ []
+  no_live : (node : List ℕ) → remaining_of p node ≡ 0 → live_children p most node ≡ []
   no_live node none = none_there (IsLonger p node) (live_children p most node) (live_longer p most node sound) (λ next h. absurd (omega arith))
 
   -- as much as is left, or more, is enough
-  enough : (n m : ℕ) (node : List ℕ) → left_of p node ≤ n → left_of p node ≤ m → size_within p most n node ≡ size_within p most m node
+  enough : (n m : ℕ) (node : List ℕ) → remaining_of p node ≤ n → remaining_of p node ≤ m → size_within p most n node ≡ size_within p most m node
   unfolding size_within
   enough zero zero node one two = refl
   enough zero (suc m) node one two = sym (ap (λ nodes. 1 + sum_by (size_within p most m) nodes) (no_live node (omega arith)))
@@ -81,18 +81,18 @@ module _ (p : ProblemParts) (most : ℕ) (sound : IsSound p) where
       enough n m next (omega arith) (omega arith)))
 
   -- with a child's share of what is left
-  size_at : (changes : ℕ) (node : List ℕ) → left_of p node ≡ changes → size_within p most changes node ≡ 1 + sum_by (size p most) (live_children p most node)
+  size_at : (changes : ℕ) (node : List ℕ) → remaining_of p node ≡ changes → size_within p most changes node ≡ 1 + sum_by (size p most) (live_children p most node)
   unfolding size_within
   size_at zero node left = sym (ap (λ nodes. 1 + sum_by (size p most) nodes) (no_live node left))
   size_at (suc changes) node left =
       ap (λ k. 1 + k) (sum_agrees (size_within p most changes) (size p most) (live_children p most node) (λ k d inside.
       let next : List ℕ = get_or (live_children p most node) k d in
       let longer : IsLonger p node next = live_longer p most node sound k d inside in
-      enough changes (left_of p next) next (omega arith) (omega arith)))
+      enough changes (remaining_of p next) next (omega arith) (omega arith)))
 
   -- the size, by the children's
   pub size_by_children : (node : List ℕ) → size p most node ≡ 1 + sum_by (size p most) (live_children p most node)
-  size_by_children node = size_at (left_of p node) node refl
+  size_by_children node = size_at (remaining_of p node) node refl
 
   -- a live child of a valid node is valid
   pub child_valid : (node : List ℕ) (step : ℕ) → IsValid p node → step < length p.leads → dead p most (child node step) ≡ None → IsValid p (child node step)

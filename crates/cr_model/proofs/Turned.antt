@@ -53,25 +53,25 @@ some_turned calling other turned some none =
     let three : length other ≡ 0 = ap length none in
     some (nil_from_length calling (omega arith))
 
--- two callings that come home together, joined the other way
-module _ (laws : RowLaws) (p : ProblemParts) (front back : List ℕ) (home : product (head_of p front) (head_of p back) ≡ rounds p.stage) where
+-- two callings that come round together, joined the other way
+module _ (laws : RowLaws) (p : ProblemParts) (front back : List ℕ) (round : product (head_of p front) (head_of p back) ≡ rounds p.stage) where
   -- the heads undo each other
-  home_back : product (head_of p back) (head_of p front) ≡ rounds p.stage
-  home_back = undone_back laws p.stage (head_of p front) (head_of p back) (head_is_row laws p front) (head_is_row laws p back) home
+  round_back : product (head_of p back) (head_of p front) ≡ rounds p.stage
+  round_back = undone_back laws p.stage (head_of p front) (head_of p back) (head_is_row laws p front) (head_is_row laws p back) round
 
-  -- the rotation comes home
-  pub home_turned : head_of p (back ++ front) ≡ rounds p.stage
-  home_turned = head_joined laws p back front ∙ home_back
+  -- the rotation comes round
+  pub round_turned : head_of p (back ++ front) ≡ rounds p.stage
+  round_turned = head_joined laws p back front ∙ round_back
 
   -- the head of the back undoes that of the front
   back_undoes : All (λ row. product (head_of p back) (product (head_of p front) row) ≡ row) (rows_of p back)
   back_undoes = All-weaker (IsRowOf p.stage) (λ row. product (head_of p back) (product (head_of p front) row) ≡ row)
-      (λ row is. undone laws p.stage (head_of p back) (head_of p front) row (head_is_row laws p front) home_back is) (rows_of p back) (rows_are_rows laws p.stage (changes_of_all p back))
+      (λ row is. undone laws p.stage (head_of p back) (head_of p front) row (head_is_row laws p front) round_back is) (rows_of p back) (rows_are_rows laws p.stage (changes_of_all p back))
 
   -- and that of the front undoes it
   front_undoes : All (λ row. product (head_of p front) (product (head_of p back) row) ≡ row) (rows_of p (front ++ back))
   front_undoes = All-weaker (IsRowOf p.stage) (λ row. product (head_of p front) (product (head_of p back) row) ≡ row)
-      (λ row is. undone laws p.stage (head_of p front) (head_of p back) row (head_is_row laws p back) home is) (rows_of p (front ++ back)) (rows_are_rows laws p.stage (changes_of_all p (front ++ back)))
+      (λ row is. undone laws p.stage (head_of p front) (head_of p back) row (head_is_row laws p back) round is) (rows_of p (front ++ back)) (rows_are_rows laws p.stage (changes_of_all p (front ++ back)))
 
   -- the rows by the head of the back are those of the rotation, in another order
   rows_turned : map (product (head_of p back)) (rows_of p (front ++ back)) ≡ map (product (head_of p back)) (rows_of p front) ++ rows_of p back
@@ -90,11 +90,11 @@ module _ (laws : RowLaws) (p : ProblemParts) (front back : List ℕ) (home : pro
 pub touch_turned : RowLaws → (p : ProblemParts) (calling other : List ℕ) → TrueTouch p calling
     → IsRotation calling other → TrueTouch p other × (length_of p other ≡ length_of p calling)
 touch_turned laws p calling other touch turned =
-    let home : product (head_of p turned.0) (head_of p turned.1) ≡ rounds p.stage = sym (head_joined laws p turned.0 turned.1) ∙ ap (head_of p) (sym turned.2) ∙ touch.home in
+    let round : product (head_of p turned.0) (head_of p turned.1) ≡ rounds p.stage = sym (head_joined laws p turned.0 turned.1) ∙ ap (head_of p) (sym turned.2) ∙ touch.round in
     let differ : AllDiffer (rows_of p (turned.0 ++ turned.1)) = subst (λ (c : List ℕ). AllDiffer (rows_of p c)) turned.2 touch.differ in
     let touch' : TrueTouch p other = record {
       some = some_turned calling other turned touch.some;
-      home = ap (head_of p) turned.3 ∙ home_turned laws p turned.0 turned.1 home;
-      differ = subst (λ (c : List ℕ). AllDiffer (rows_of p c)) (sym turned.3) (differ_turned laws p turned.0 turned.1 home differ);
+      round = ap (head_of p) turned.3 ∙ round_turned laws p turned.0 turned.1 round;
+      differ = subst (λ (c : List ℕ). AllDiffer (rows_of p c)) (sym turned.3) (differ_turned laws p turned.0 turned.1 round differ);
     } in
     (touch', length_turned p calling other turned)

@@ -14,7 +14,7 @@ use Rattle.cr_model.specs.Problems.{ProblemParts}
 use Rattle.cr_model.specs.Callings.{HasSteps, mark_of, letter_of}
 use Rattle.cr_model.specs.Queries.{changes_of_method, MeetsCom}
 use Rattle.cr_model.specs.Touches.{Wanted, IsRotation, IsLess}
-use Rattle.cr_model.specs.Turning.{TurnsBack}
+use Rattle.cr_model.specs.LeastRotations.{TurnsBack}
 use Rattle.cr_model.specs.Dead.{parts_of, turns_back, turn_free}
 use Rattle.cr_model.proofs.Bells.{RowLaws}
 use Rattle.cr_model.proofs.Below.{words}

@@ -86,7 +86,7 @@ AllDiffer rows = (i j : ℕ) → i < j → j < length rows → get_or rows i [] 
 -- a true touch: not empty, it ends in rounds, and no row stands twice
 pub record TrueTouch (p : ProblemParts) (calling : List ℕ) : Type 0 where
   pub some : calling ≢ []
-  pub home : head_of p calling ≡ rounds p.stage
+  pub round : head_of p calling ≡ rounds p.stage
   pub differ : AllDiffer (rows_of p calling)
 
 -- the lead at an index, by its parts

@@ -24,11 +24,11 @@ abbrev pub parts_of : ProblemParts → ℕ
 parts_of p = nat_abs p.query.parts
 
 -- the changes that are left in a part, and how many leads they can hold at most
-abbrev pub left_of : ProblemParts → List ℕ → ℕ
-left_of p node = part_cap p - length_of p node
+abbrev pub remaining_of : ProblemParts → List ℕ → ℕ
+remaining_of p node = part_cap p - length_of p node
 
 abbrev pub leads_left : ProblemParts → List ℕ → ℕ
-leads_left p node = left_of p node / shortest p
+leads_left p node = remaining_of p node / shortest p
 
 -- Long: it is longer than a part may be
 abbrev pub is_long : ProblemParts → List ℕ → Bool
@@ -47,12 +47,12 @@ abbrev pub has_rounds : ProblemParts → List (List ℕ) → Bool
 has_rounds p rows = list_any (pointwise nat_eq (rounds p.stage)) rows
 
 -- Home: rounds stands in its rows before the last place, or stands last and there are several parts
-abbrev pub is_home : ProblemParts → List ℕ → Bool
-is_home p node =
+abbrev pub is_round : ProblemParts → List ℕ → Bool
+is_round p node =
     has_rounds p (take (length (rows_of p node) - 1) (rows_of p node))
     || (has_rounds p (drop (length (rows_of p node) - 1) (rows_of p node)) && nat_lt 1 (parts_of p))
 
--- Far: with as many of the shortest leads as lead home at least, it is longer than a touch may be
+-- Far: with as many of the shortest leads as lead to rounds at least, it is longer than a touch may be
 abbrev pub is_far : ProblemParts → ℕ → List ℕ → Bool
 is_far p most node = nat_lt (cap p) (length_of p node + shortest p * at_least p most (head_of p node))
 
@@ -98,7 +98,7 @@ abbrev pub holds : ProblemParts → ℕ → List ℕ → Reason → Bool
 holds p most node reason.Long = is_long p node
 holds p most node reason.SelfFalse = is_self_false p node
 holds p most node reason.Again = is_again p node
-holds p most node reason.Home = is_home p node
+holds p most node reason.Home = is_round p node
 holds p most node reason.Far = is_far p most node
 holds p most node reason.TooMany = is_too_many p node
 holds p most node reason.TooFew = is_too_few p node

@@ -11,16 +11,16 @@ abbrev pub head_from : List ℕ → List Places → List ℕ
 head_from row changes = last_of row (rows_from row changes)
 
 -- some calling of so many leads leads from a row to rounds
-pub record LeadsHome (p : ProblemParts) (leads : ℕ) (row : List ℕ) : Type 0 where
+pub record LeadsToRounds (p : ProblemParts) (leads : ℕ) (row : List ℕ) : Type 0 where
   pub calling : List ℕ
   pub steps : HasSteps p calling
   pub number : length calling ≡ leads
-  pub home : head_from row (changes_of_all p calling) ≡ rounds p.stage
+  pub round : head_from row (changes_of_all p calling) ≡ rounds p.stage
 
--- it is the level of a row: so many leads lead home, and no fewer
+-- it is the level of a row: so many leads lead to rounds, and no fewer
 pub record IsLevel (p : ProblemParts) (leads : ℕ) (row : List ℕ) : Type 0 where
-  pub reached : LeadsHome p leads row
-  pub least : (fewer : ℕ) → fewer < leads → LeadsHome p fewer row → ⊥
+  pub reached : LeadsToRounds p leads row
+  pub least : (fewer : ℕ) → fewer < leads → LeadsToRounds p fewer row → ⊥
 
 -- the row from which a step leads to a row: its changes rung from the last to the first
 abbrev pub row_before : ProblemParts → List ℕ → ℕ → List ℕ

@@ -5,7 +5,7 @@ pub mod Queries
 pub mod Touches
 pub mod Nodes
 pub mod Decided
-pub mod Turning
+pub mod LeastRotations
 pub mod Levels
 pub mod Dead
 pub mod Sizes

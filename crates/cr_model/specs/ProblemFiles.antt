@@ -53,7 +53,7 @@ abbrev pub is_for : FileParts → ℕ → ℕ → Bool
 is_for file call method = is_named (call_at file call).methods (get_or (letters_of file) method 0)
 
 -- the changes of the methods and of the calls
-pub record Tunes : Type 0 where
+pub record Spellings : Type 0 where
   pub methods : List (List Places)
   pub calls : List (List Places)
 
@@ -63,16 +63,16 @@ method_texts file = map (λ method. method.notation) file.methods
 abbrev pub call_texts : FileParts → List (List ℕ)
 call_texts file = map (λ call. call.notation) file.calls
 
-abbrev pub tune_at : List (List Places) → ℕ → List Places
-tune_at tunes i = get_or tunes i []
+abbrev pub spelling_at : List (List Places) → ℕ → List Places
+spelling_at spellings i = get_or spellings i []
 
 -- how many changes a call replaces, if it says so
 abbrev pub over_at : FileParts → ℕ → Option ℕ
 over_at file call = option_map nat_abs (call_at file call).over
 
 -- the changes of a call on a method
-abbrev pub called_tune : FileParts → Tunes → ℕ → ℕ → List Places
-called_tune file tunes call method = called (over_at file call) (tune_at tunes.calls call) (tune_at tunes.methods method)
+abbrev pub called_spelling : FileParts → Spellings → ℕ → ℕ → List Places
+called_spelling file spellings call method = called (over_at file call) (spelling_at spellings.calls call) (spelling_at spellings.methods method)
 
 -- the call for a method with a mark
 abbrev pub call_with : FileParts → ℕ → ℕ → Option ℕ
@@ -83,18 +83,18 @@ abbrev pub lead_from : ℕ → ℕ → List Places → LeadParts
 lead_from method mark changes = record { step = record { method = method; mark = mark }; changes = changes }
 
 -- the lead of a method with a mark, if there is a call for it
-abbrev pub called_lead : FileParts → Tunes → ℕ → ℕ → Option ℕ → List LeadParts
-called_lead file tunes method mark None = []
-called_lead file tunes method mark (Some call) = lead_from method mark (called_tune file tunes call method) ∷ []
+abbrev pub called_lead : FileParts → Spellings → ℕ → ℕ → Option ℕ → List LeadParts
+called_lead file spellings method mark None = []
+called_lead file spellings method mark (Some call) = lead_from method mark (called_spelling file spellings call method) ∷ []
 
 -- the leads of a method: plain, then by marks from a to z
-abbrev pub leads_of_method : FileParts → Tunes → ℕ → List LeadParts
-leads_of_method file tunes method =
-    lead_from method plain (tune_at tunes.methods method)
-    ∷ flat_map (λ mark. called_lead file tunes method mark (call_with file method mark)) (range_with_len 97 26)
+abbrev pub leads_of_method : FileParts → Spellings → ℕ → List LeadParts
+leads_of_method file spellings method =
+    lead_from method plain (spelling_at spellings.methods method)
+    ∷ flat_map (λ mark. called_lead file spellings method mark (call_with file method mark)) (range_with_len 97 26)
 
-abbrev pub leads_of : FileParts → Tunes → List LeadParts
-leads_of file tunes = flat_map (leads_of_method file tunes) (range_with_len 0 (length file.methods))
+abbrev pub leads_of : FileParts → Spellings → List LeadParts
+leads_of file spellings = flat_map (leads_of_method file spellings) (range_with_len 0 (length file.methods))
 
 abbrev pub count_of : Limited → Count
 count_of limited = record { mark = byte_of limited.text; min = limited.min; max = limited.max }
@@ -125,8 +125,8 @@ query_of file = record {
   «com» = file.com;
 }
 
-abbrev pub parts_of : ℕ → FileParts → Tunes → ProblemParts
-parts_of n file tunes = parts_from n (letters_of file) (leads_of file tunes) (query_of file)
+abbrev pub parts_of : ℕ → FileParts → Spellings → ProblemParts
+parts_of n file spellings = parts_from n (letters_of file) (leads_of file spellings) (query_of file)
 
 -- `over` is 0 to 128, if the call has it
 abbrev pub OverIsRight : FileParts → ℕ → Type 0
@@ -139,17 +139,17 @@ pub record MarkIsRight (mark : ℕ) : Type 0 where
   pub called : mark ≢ plain
 
 -- a call replaces no more changes than the method has, and gives a lead of at most 128
-pub record Fits (file : FileParts) (tunes : Tunes) (call method : ℕ) : Type 0 where
-  pub over : unwrap_or (over_at file call) (length (tune_at tunes.calls call)) ≤ length (tune_at tunes.methods method)
-  pub short : length (called_tune file tunes call method) ≤ most_lead_changes
+pub record Fits (file : FileParts) (spellings : Spellings) (call method : ℕ) : Type 0 where
+  pub over : unwrap_or (over_at file call) (length (spelling_at spellings.calls call)) ≤ length (spelling_at spellings.methods method)
+  pub short : length (called_spelling file spellings call method) ≤ most_lead_changes
 
 -- the call fits the method, if it is for it
-abbrev pub Suits : FileParts → Tunes → ℕ → ℕ → Type 0
-Suits file tunes call method = is_for file call method ≡ true → Fits file tunes call method
+abbrev pub Suits : FileParts → Spellings → ℕ → ℕ → Type 0
+Suits file spellings call method = is_for file call method ≡ true → Fits file spellings call method
 
 -- the call fits each method that it is for
-abbrev pub FitsAll : FileParts → Tunes → ℕ → Type 0
-FitsAll file tunes call = (method : ℕ) → method < length file.methods → Suits file tunes call method
+abbrev pub FitsAll : FileParts → Spellings → ℕ → Type 0
+FitsAll file spellings call = (method : ℕ) → method < length file.methods → Suits file spellings call method
 
 -- two calls have no method in common
 abbrev pub ShareNoMethod : FileParts → ℕ → ℕ → Type 0
@@ -178,32 +178,32 @@ pub record MethodsSpell (file : FileParts) (n : ℕ) (methods : List (List Place
   pub before : LettersPass file n
   pub methods_spell : AllZip (Spells n) (method_texts file) methods
 
-pub record CallsSpell (file : FileParts) (n : ℕ) (tunes : Tunes) : Type 0 where
-  pub before : MethodsSpell file n tunes.methods
-  pub calls_spell : AllZip (Spells n) (call_texts file) tunes.calls
+pub record CallsSpell (file : FileParts) (n : ℕ) (spellings : Spellings) : Type 0 where
+  pub before : MethodsSpell file n spellings.methods
+  pub calls_spell : AllZip (Spells n) (call_texts file) spellings.calls
 
-pub record OversPass (file : FileParts) (n : ℕ) (tunes : Tunes) : Type 0 where
-  pub before : CallsSpell file n tunes
+pub record OversPass (file : FileParts) (n : ℕ) (spellings : Spellings) : Type 0 where
+  pub before : CallsSpell file n spellings
   pub overs : (call : ℕ) → call < length file.calls → OverIsRight file call
 
-pub record MarksPass (file : FileParts) (n : ℕ) (tunes : Tunes) : Type 0 where
-  pub before : OversPass file n tunes
+pub record MarksPass (file : FileParts) (n : ℕ) (spellings : Spellings) : Type 0 where
+  pub before : OversPass file n spellings
   pub marks : (call : ℕ) → call < length file.calls → MarkIsRight (mark_at file call)
 
-pub record LengthsPass (file : FileParts) (n : ℕ) (tunes : Tunes) : Type 0 where
-  pub before : MarksPass file n tunes
-  pub fits : (call : ℕ) → call < length file.calls → FitsAll file tunes call
+pub record LengthsPass (file : FileParts) (n : ℕ) (spellings : Spellings) : Type 0 where
+  pub before : MarksPass file n spellings
+  pub fits : (call : ℕ) → call < length file.calls → FitsAll file spellings call
 
-pub record CallsPass (file : FileParts) (n : ℕ) (tunes : Tunes) : Type 0 where
-  pub before : LengthsPass file n tunes
+pub record CallsPass (file : FileParts) (n : ℕ) (spellings : Spellings) : Type 0 where
+  pub before : LengthsPass file n spellings
   pub apart : (second : ℕ) → second < length file.calls → IsApart file second
 
 -- the values of a file, all of whose calls are right, make these parts of a problem
 pub record Makes (file : FileParts) (p : ProblemParts) : Type 0 where
   pub n : ℕ
-  pub tunes : Tunes
-  pub passes : CallsPass file n tunes
-  pub is : p ≡ parts_of n file tunes
+  pub spellings : Spellings
+  pub passes : CallsPass file n spellings
+  pub is : p ≡ parts_of n file spellings
 
 -- the bytes are a problem file of this problem
 pub record ProblemFile (bytes : List ℕ) (p : ProblemParts) : Type 0 where
@@ -237,15 +237,15 @@ IsFileFault file (fault.Notation (whose.Call i) why) =
     (n : ℕ) × (methods : List (List Places)) × MethodsSpell file n methods
     × IsFirstUnspelled n (call_texts file) i why
 IsFileFault file (fault.Over call) =
-    (n : ℕ) × (tunes : Tunes) × CallsSpell file n tunes × IsFirstWrong (OverIsRight file) (length file.calls) call
+    (n : ℕ) × (spellings : Spellings) × CallsSpell file n spellings × IsFirstWrong (OverIsRight file) (length file.calls) call
 IsFileFault file (fault.Mark call) =
-    (n : ℕ) × (tunes : Tunes) × OversPass file n tunes
+    (n : ℕ) × (spellings : Spellings) × OversPass file n spellings
     × IsFirstWrong (λ i. MarkIsRight (mark_at file i)) (length file.calls) call
 IsFileFault file (fault.CallLength call method) =
-    (n : ℕ) × (tunes : Tunes) × MarksPass file n tunes × IsFirstWrong (FitsAll file tunes) (length file.calls) call
-    × IsFirstWrong (Suits file tunes call) (length file.methods) method
+    (n : ℕ) × (spellings : Spellings) × MarksPass file n spellings × IsFirstWrong (FitsAll file spellings) (length file.calls) call
+    × IsFirstWrong (Suits file spellings call) (length file.methods) method
 IsFileFault file (fault.Clash first second) =
-    (n : ℕ) × (tunes : Tunes) × LengthsPass file n tunes × IsFirstWrong (IsApart file) (length file.calls) second
+    (n : ℕ) × (spellings : Spellings) × LengthsPass file n spellings × IsFirstWrong (IsApart file) (length file.calls) second
     × IsFirstWrong (λ i. AreApart file i second) second first
 IsFileFault file (fault.Steps number) = MakesWrong file (part.Steps number)
 IsFileFault file (fault.Range low high) = MakesWrong file (part.Range low high)

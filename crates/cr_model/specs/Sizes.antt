@@ -2,7 +2,7 @@
 use Rattle.std.specs.Prelude.{ℕ, zero, suc, ◌+◌, List, [], ◌∷◌, ◌++◌, length, map, filter, sum_by, is_none}
 use Rattle.std.specs.List.{range_with_len}
 use Rattle.cr_model.specs.Problems.{ProblemParts}
-use Rattle.cr_model.specs.Dead.{left_of, dead}
+use Rattle.cr_model.specs.Dead.{remaining_of, dead}
 
 -- how many rows the levels that the search looks at may have
 unfoldable pub most_rows : ℕ
@@ -26,7 +26,7 @@ size_within p most (suc changes) node = 1 + sum_by (size_within p most changes) 
 
 -- the size of a valid node: one, and the sizes of its children that are not dead
 abbrev pub size : ProblemParts → ℕ → List ℕ → ℕ
-size p most node = size_within p most (left_of p node) node
+size p most node = size_within p most (remaining_of p node) node
 
 -- the size of some nodes
 abbrev pub size_of_all : ProblemParts → ℕ → List (List ℕ) → ℕ

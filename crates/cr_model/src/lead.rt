@@ -3,6 +3,9 @@
 use cr_row::Change;
 use std::marker::Model;
 
+/// The mark of a plain lead.
+pub const PLAIN: u8 = b'p';
+
 /// A step: a method, by its index, and a mark, `p` for a plain lead and else a call's.
 #[derive(Clone, Copy, Debug, PartialEq, Eq)]
 pub struct Step {

@@ -6,12 +6,9 @@ ghost use Rattle.cr_model.specs.Callings.{step_at, changes_at};
 ghost use Rattle.cr_model.specs.Right.{AreOfStage, IsNextStep, StepIsRight, LeadIsRight, LeadsAreRight};
 ghost use Rattle.cr_model.specs.Faults.{LeadsWrongAt};
 
-use crate::lead::{Lead, Step};
+use crate::lead::{Lead, PLAIN, Step};
 use crate::limits::MOST_LEAD_CHANGES;
 use cr_row::{Change, Stage};
-
-// The mark of a plain lead.
-const PLAIN: u8 = b'p';
 
 // Whether the second step follows the first.
 fn is_next(before: Step, step: Step) -> bool

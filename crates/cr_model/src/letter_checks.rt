@@ -3,6 +3,7 @@
 ghost use Rattle.std.specs.Prelude.{◌≡◌, ◌≢◌, ℕ, ◌<◌, ◌↔◌, length, get_or, IsTrue, MatchOption};
 ghost use Rattle.cr_model.specs.Right.{LetterIsRight, LettersAreRight};
 ghost use Rattle.cr_model.specs.Faults.{LettersWrongAt};
+ghost use Rattle.cr_model.specs.Checks.{TellsFirst};
 
 use crate::limits::MOST_METHODS;
 
@@ -36,6 +37,13 @@ pub fn wrong_letter(letters: &[u8]) -> Option<u64>
     if letters.is_empty() {
         return Some(0);
     }
+    first_wrong_letter(letters)
+}
+
+/// The first letter that is wrong: one of more than eight, none from A to Z, or one that stands before.
+pub fn first_wrong_letter(letters: &[u8]) -> Option<u64>
+    ensures { TellsFirst (LetterIsRight letters.now) (length letters.now) result }
+{
     for index in 0..letters.len() {
         if !letter_is_right(letters, index) {
             return Some(index as u64);

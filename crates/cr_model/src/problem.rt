@@ -6,6 +6,7 @@ ghost use Rattle.cr_model.specs.Callings.{shortest, length_of, HasSteps};
 ghost use Rattle.cr_model.specs.Queries.{cap, part_cap};
 ghost use Rattle.cr_model.specs.Sound.{IsSound};
 ghost use Rattle.cr_model.specs.Faults.{IsPartFault};
+ghost use Rattle.cr_model.specs.Dead.{parts_of};
 
 use crate::calling::Calling;
 use crate::checks::check_all;
@@ -118,6 +119,16 @@ impl Problem {
         &self.query
     }
 
+    /// The number of parts of a touch: what the query asks for without its sign, from 1 to 64.
+    pub fn parts(&self) -> u64
+        ensures is { result ≡ parts_of self.now }
+        ensures some { 1 ≤ result }
+        ensures few { result ≤ 64 }
+        ensures sound { IsSound self.now }
+    {
+        self.query.parts.unsigned_abs()
+    }
+
     /// The greatest length of a touch, in changes: the query's `max`, and no more than the extent.
     pub fn cap(&self) -> u64
         ensures { result ≡ cap self.now }
@@ -129,7 +140,7 @@ impl Problem {
     pub fn part_cap(&self) -> u64
         ensures { result ≡ part_cap self.now }
     {
-        self.cap() / self.query.parts.unsigned_abs()
+        self.cap() / self.parts()
     }
 
     /// The number of changes of the shortest lead.

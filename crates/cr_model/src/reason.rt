@@ -9,9 +9,9 @@ pub enum Reason {
     SelfFalse,
     /// It has a row twice.
     Again,
-    /// It comes home too early.
+    /// It comes round too early.
     Home,
-    /// It can't come home in time.
+    /// It can't come round in time.
     Far,
     /// It has too many leads, rows or changes of method that are counted.
     TooMany,

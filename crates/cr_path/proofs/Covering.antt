@@ -14,7 +14,7 @@ use Rattle.cr_model.specs.Levels.{is_listed}
 use Rattle.cr_rowset.specs.Stacks.{AllDiffer}
 use Rattle.cr_path.specs.Covers.{CoversItself, StaysWithin, IsCover}
 use Rattle.cr_path.specs.Rung.{rung_numbers}
-use Rattle.cr_path.specs.declared.numbering.RungLead.{RungLead}
+use Rattle.cr_path.specs.declared.numbers.rung_leads.RungLead.{RungLead}
 
 -- tests of which each passes where the other does
 pub both_pass : (a b : Bool) → (a ≡ true → b ≡ true) → (b ≡ true → a ≡ true) → a ≡ b

@@ -1,4 +1,4 @@
--- Of the rows of a node the telling ones are enough.
+-- Of the rows of a node the representative ones are enough.
 use Rattle.std.proofs.Common.{◌≡◌, ℕ, zero, suc, ◌+◌, ◌*◌, ◌<◌, ◌≤◌, ◌||◌, List, [], ◌∷◌, ◌++◌, length, get_or, map, take, refl, sym, ap, ap₂, ◌∙◌, subst, arith}
 use Rattle.std.specs.List.{list_any}
 use Rattle.std.proofs.lemmas.List.{take_more, take_all}
@@ -6,8 +6,8 @@ use Rattle.cr_model.specs.Problems.{ProblemParts}
 use Rattle.cr_model.specs.Callings.{rows_of, head_of}
 use Rattle.cr_model.specs.Levels.{is_listed}
 use Rattle.cr_model.specs.Nodes.{IsValid}
-use Rattle.cr_path.specs.declared.ends.LeadEnd.{LeadEnd}
-use Rattle.cr_path.specs.declared.table.LeadRecord.{LeadRecord}
+use Rattle.cr_path.specs.declared.walks.ends.LeadEnd.{LeadEnd}
+use Rattle.cr_path.specs.declared.numbers.table.LeadRecord.{LeadRecord}
 use Rattle.cr_path.specs.Ends.{IsEnd, AreEnds}
 use Rattle.cr_path.specs.Marks.{row_at, IsLead}
 use Rattle.cr_path.specs.Numbers.{NumberParts, lead_from, numbers_of, IsTold, IsNumbered}
@@ -17,7 +17,7 @@ use Rattle.cr_path.proofs.Places.{record_at, lead_is_told, told_at}
 
 -- what is read past the last end
 no_end : LeadEnd
-no_end = record { base = 0; rung = 0; left = 0; home = 0 }
+no_end = record { base = 0; rung = 0; left = 0; round = 0 }
 
 -- one of some rows stands among joined rows where it stands among the first or the later ones
 any_joined : (rows more others : List (List ℕ)) → list_any (is_listed (rows ++ more)) others ≡ (list_any (is_listed rows) others || list_any (is_listed more) others)

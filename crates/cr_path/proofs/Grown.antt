@@ -8,7 +8,7 @@ use Rattle.cr_rowset.specs.Pushing.{Pushes, StandsAt}
 use Rattle.cr_rowset.specs.declared.pushed.Pushed.{Pushed}
 use Rattle.cr_rowset.specs.declared.pushed.Pushed.TheVariants.{Fresh, Again, Full}
 use Rattle.cr_model.specs.Problems.{ProblemParts}
-use Rattle.cr_path.specs.Numbering.{IsKept, HasNumber, AreHeads, AreNumbered}
+use Rattle.cr_path.specs.RungLeads.{IsKept, HasNumber, AreHeads, AreNumbered}
 
 pub kept_all : (rows : List (List ℕ)) → IsKept rows rows
 kept_all rows = record { long = omega arith; same = λ i low. refl }

@@ -4,7 +4,7 @@ use Rattle.std.proofs.lemmas.Bool.{cases_eq}
 use Rattle.std.proofs.lemmas.List.{get_or_append_left, get_or_push, get_or-take, length_push, length-take-le, take_all, take-append-le, take-take}
 use Rattle.cr_model.specs.Problems.{ProblemParts}
 use Rattle.cr_model.specs.Sizes.{child}
-use Rattle.cr_path.specs.declared.ends.LeadEnd.{LeadEnd}
+use Rattle.cr_path.specs.declared.walks.ends.LeadEnd.{LeadEnd}
 use Rattle.cr_path.specs.Ends.{final_step, IsEnd, AreEnds}
 use Rattle.cr_path.specs.Numbers.{NumberParts}
 use Rattle.cr_path.specs.Sets.{AreUncut}
@@ -23,11 +23,11 @@ module _ (p : ProblemParts) (t : NumberParts) (node : List ℕ) (next : ℕ) (en
   last_left = subst (λ (e : LeadEnd). AreUncut p node next e.left) (get_or_push ends end end (length node) counted) (are.left end)
 
   -- with other children left
-  pub left_kept : (after left : ℕ) → AreUncut p node after left → AreEnds p t node after (ends ++ record { base = end.base; rung = end.rung; left = left; home = end.home } ∷ [])
+  pub left_kept : (after left : ℕ) → AreUncut p node after left → AreEnds p t node after (ends ++ record { base = end.base; rung = end.rung; left = left; round = end.round } ∷ [])
   left_kept after left uncut =
-      let other : LeadEnd = record { base = end.base; rung = end.rung; left = left; home = end.home } in
+      let other : LeadEnd = record { base = end.base; rung = end.rung; left = left; round = end.round } in
       let is = last_end in
-      let at_other : IsEnd p t node other = record { from = is.from; long = is.long; home = is.home } in
+      let at_other : IsEnd p t node other = record { from = is.from; long = is.long; round = is.round } in
       let same : (i : ℕ) (d : LeadEnd) → i < length ends → get_or (ends ++ end ∷ []) i d ≡ get_or (ends ++ other ∷ []) i d =
       (λ i d low. get_or_append_left ends (end ∷ []) d i low ∙ sym (get_or_append_left ends (other ∷ []) d i low)) in
       record {

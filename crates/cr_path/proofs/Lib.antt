@@ -7,7 +7,7 @@ pub mod Living
 pub mod Walking
 pub mod Passing
 pub mod Multiplied
-pub mod Homes
+pub mod ComingRound
 pub mod Grown
 pub mod Bounds
 pub mod Lives
@@ -17,7 +17,6 @@ pub mod Names
 pub mod Padding
 pub mod Told
 pub mod Minimus
-pub mod StepSets
 pub mod Kept
 pub mod Enough
 pub mod Counts

@@ -8,8 +8,8 @@ use Rattle.cr_model.specs.Callings.{shortest, lead_length}
 use Rattle.cr_model.specs.Queries.{cap, part_cap}
 use Rattle.cr_model.specs.Levels.{at_least}
 use Rattle.cr_model.specs.Sizes.{most_rows}
-use Rattle.cr_path.specs.Numbers.{lead_from, head_after, brings_home, dies_after}
-use Rattle.cr_path.specs.Facts.{has_row_twice, false_leads}
+use Rattle.cr_path.specs.Numbers.{lead_from, head_after, brings_round, dies_after}
+use Rattle.cr_path.specs.PathLimits.{has_row_twice, false_leads}
 
 -- which leads have a row twice, by step
 pub twice_at : (p : ProblemParts) (twice : List Bool) (step : ℕ) (d : Bool) → twice ≡ false_leads p (length p.leads) → step < length p.leads
@@ -30,9 +30,9 @@ both_below : (rung a b : ℕ) → nat_lt rung (min a b) ≡ (nat_lt rung a && na
 both_below rung a b = grind (arith, nat_tests)
 
 -- a reason holds of all lengths, or none but those of the length
-always : (long twice home far : Bool) → (home ≡ true) ⊎ (twice ≡ true) → false ≡ not (long || (twice || (home || far)))
-always true twice home far why = refl
-always false true home far why = refl
+always : (long twice round far : Bool) → (round ≡ true) ⊎ (twice ≡ true) → false ≡ not (long || (twice || (round || far)))
+always true twice round far why = refl
+always false true round far why = refl
 always false false true far why = refl
 always false false false far (inl e) = absurd (cc)
 always false false false far (inr e) = absurd (cc)
@@ -41,21 +41,21 @@ sometimes : (long far : Bool) → (not long && not far) ≡ not (long || (false 
 sometimes true far = refl
 sometimes false far = refl
 
-module _ (p : ProblemParts) (head : List ℕ) (step rung : ℕ) (home twice : Bool) (home_is : home ≡ brings_home p (lead_from p head step))
+module _ (p : ProblemParts) (head : List ℕ) (step rung : ℕ) (round twice : Bool) (round_is : round ≡ brings_round p (lead_from p head step))
     (twice_is : twice ≡ has_row_twice p step) where
-  pub dies_always : (home ≡ true) ⊎ (twice ≡ true) → nat_lt rung 0 ≡ not (dies_after p head step rung)
+  pub dies_always : (round ≡ true) ⊎ (twice ≡ true) → nat_lt rung 0 ≡ not (dies_after p head step rung)
   dies_always why =
       none_below rung
-      ∙ always (nat_lt (part_cap p) (rung + lead_length p step)) twice home
+      ∙ always (nat_lt (part_cap p) (rung + lead_length p step)) twice round
       (nat_lt (cap p) (rung + lead_length p step + shortest p * at_least p most_rows (head_after p head step))) why
       ∙ ap₂ (λ (t h : Bool). not (nat_lt (part_cap p) (rung + lead_length p step)
-      || (t || (h || nat_lt (cap p) (rung + lead_length p step + shortest p * at_least p most_rows (head_after p head step)))))) twice_is home_is
+      || (t || (h || nat_lt (cap p) (rung + lead_length p step + shortest p * at_least p most_rows (head_after p head step)))))) twice_is round_is
 
-  pub dies_from : (after : List ℕ) (part touch length' least : ℕ) → after ≡ head_after p head step → home ≡ false → twice ≡ false
+  pub dies_from : (after : List ℕ) (part touch length' least : ℕ) → after ≡ head_after p head step → round ≡ false → twice ≡ false
       → length' ≡ lead_length p step → least ≡ shortest p * at_least p most_rows after
       → nat_lt rung part ≡ not (nat_lt (part_cap p) (rung + length')) → nat_lt rung touch ≡ not (nat_lt (cap p) (rung + (length' + least)))
       → nat_lt rung (min part touch) ≡ not (dies_after p head step rung)
-  dies_from after part touch length' least after_is not_home not_twice length_is least_is part_is touch_is =
+  dies_from after part touch length' least after_is not_round not_twice length_is least_is part_is touch_is =
       let whole : rung + (length' + least) ≡ rung + lead_length p step + shortest p * at_least p most_rows (head_after p head step) =
       let l : least ≡ shortest p * at_least p most_rows (head_after p head step) = least_is ∙ ap (λ h. shortest p * at_least p most_rows h) after_is in
       omega (arith, length_is, l) in
@@ -67,4 +67,4 @@ module _ (p : ProblemParts) (head : List ℕ) (step rung : ℕ) (home twice : Bo
       (nat_lt (cap p) (rung + lead_length p step + shortest p * at_least p most_rows (head_after p head step)))
       ∙ ap₂ (λ (t h : Bool). not (nat_lt (part_cap p) (rung + lead_length p step)
       || (t || (h || nat_lt (cap p) (rung + lead_length p step + shortest p * at_least p most_rows (head_after p head step))))))
-      (sym not_twice ∙ twice_is) (sym not_home ∙ home_is)
+      (sym not_twice ∙ twice_is) (sym not_round ∙ round_is)

@@ -11,7 +11,7 @@ use Rattle.cr_model.specs.declared.reason.Reason.{Reason}
 use Rattle.cr_model.specs.declared.reason.Reason.TheVariants as reason
 use Rattle.cr_model.specs.Problems.{ProblemParts}
 use Rattle.cr_model.specs.Callings.{shortest, lead_length, rows_of, length_of, head_of}
-use Rattle.cr_model.specs.Dead.{parts_of, has_rounds, is_long, is_self_false, is_again, is_home, is_far, is_too_many, is_too_few, is_turned_back, dead}
+use Rattle.cr_model.specs.Dead.{parts_of, has_rounds, is_long, is_self_false, is_again, is_round, is_far, is_too_many, is_too_few, is_turned_back, dead}
 use Rattle.cr_model.specs.Decided.{rows_differ}
 use Rattle.cr_model.specs.Levels.{at_least, is_listed}
 use Rattle.cr_model.specs.Nodes.{IsValid}
@@ -19,12 +19,12 @@ use Rattle.cr_model.specs.Queries.{cap, part_cap}
 use Rattle.cr_model.specs.Sizes.{most_rows, child}
 use Rattle.cr_model.specs.Sound.{IsSound}
 use Rattle.cr_query.specs.Meters.{is_hopeless_by_leads}
-use Rattle.cr_path.specs.declared.table.LeadRecord.{LeadRecord}
-use Rattle.cr_path.specs.declared.ends.LeadEnd.{LeadEnd}
+use Rattle.cr_path.specs.declared.numbers.table.LeadRecord.{LeadRecord}
+use Rattle.cr_path.specs.declared.walks.ends.LeadEnd.{LeadEnd}
 use Rattle.cr_path.specs.Ends.{IsEnd}
 use Rattle.cr_path.specs.Living.{is_clean, is_cut, is_hopeless, is_live, AreCut}
 use Rattle.cr_path.specs.Marks.{some_marked, AreMarked, IsLead}
-use Rattle.cr_path.specs.Numbers.{NumberParts, lead_from, head_after, brings_home, dies_after, numbers_of, IsNumbered}
+use Rattle.cr_path.specs.Numbers.{NumberParts, lead_from, head_after, brings_round, dies_after, numbers_of, IsNumbered}
 use Rattle.cr_path.proofs.Children.{child_rows, child_head, child_length, lead_long, some_changes, few_leads}
 use Rattle.cr_path.proofs.Listed.{differ_joined, listed_joined}
 use Rattle.cr_path.proofs.Marking.{lead_differs, marked_told, all_fresh, marks_of}
@@ -34,17 +34,17 @@ module _ (p : ProblemParts) (rows more : List (List ℕ)) (some : 0 < length mor
   cut_at : length (rows ++ more) - 1 ≡ length rows + (length more - 1)
   cut_at = omega (arith, length-append rows more)
 
-  joined_home : brings_home p (rows ++ more) ≡ ((has_rounds p rows || has_rounds p (take (length more - 1) more)) || (has_rounds p (drop (length more - 1) more) && nat_lt 1 (parts_of p)))
-  joined_home =
+  joined_round : brings_round p (rows ++ more) ≡ ((has_rounds p rows || has_rounds p (take (length more - 1) more)) || (has_rounds p (drop (length more - 1) more) && nat_lt 1 (parts_of p)))
+  joined_round =
       ap₂ (λ a b. a || (b && nat_lt 1 (parts_of p)))
       (ap (λ n. has_rounds p (take n (rows ++ more))) cut_at ∙ ap (has_rounds p) (take-append-add rows more (length more - 1)) ∙ listed_joined rows (take (length more - 1) more) (rounds p.stage))
       (ap (λ n. has_rounds p (drop n (rows ++ more))) cut_at ∙ ap (has_rounds p) (drop-append-add rows more (length more - 1)))
 
-  pub home_behind : has_rounds p rows ≡ false → brings_home p (rows ++ more) ≡ brings_home p more
-  home_behind none = joined_home ∙ ap (λ b. (b || has_rounds p (take (length more - 1) more)) || (has_rounds p (drop (length more - 1) more) && nat_lt 1 (parts_of p))) none
+  pub round_behind : has_rounds p rows ≡ false → brings_round p (rows ++ more) ≡ brings_round p more
+  round_behind none = joined_round ∙ ap (λ b. (b || has_rounds p (take (length more - 1) more)) || (has_rounds p (drop (length more - 1) more) && nat_lt 1 (parts_of p))) none
 
-  pub home_in_front : has_rounds p rows ≡ true → brings_home p (rows ++ more) ≡ true
-  home_in_front here = joined_home ∙ ap (λ b. (b || has_rounds p (take (length more - 1) more)) || (has_rounds p (drop (length more - 1) more) && nat_lt 1 (parts_of p))) here
+  pub round_in_front : has_rounds p rows ≡ true → brings_round p (rows ++ more) ≡ true
+  round_in_front here = joined_round ∙ ap (λ b. (b || has_rounds p (take (length more - 1) more)) || (has_rounds p (drop (length more - 1) more) && nat_lt 1 (parts_of p))) here
 
 -- the reasons of a child
 module _ (p : ProblemParts) (node : List ℕ) (step : ℕ) where
@@ -82,17 +82,17 @@ module _ (p : ProblemParts) (node : List ℕ) (step : ℕ) where
   some_rows : IsSound p → step < length p.leads → 0 < length (lead_from p (head_of p node) step)
   some_rows sound inside = omega (arith, lead_long p (head_of p node) step, some_changes p step sound inside)
 
-  home_child : IsSound p → step < length p.leads → has_rounds p (rows_of p node) ≡ false → is_home p (child node step) ≡ brings_home p (lead_from p (head_of p node) step)
-  home_child sound inside none =
-      ap (brings_home p) (child_rows p node step) ∙ home_behind p (rows_of p node) (lead_from p (head_of p node) step) (some_rows sound inside) none
+  round_child : IsSound p → step < length p.leads → has_rounds p (rows_of p node) ≡ false → is_round p (child node step) ≡ brings_round p (lead_from p (head_of p node) step)
+  round_child sound inside none =
+      ap (brings_round p) (child_rows p node step) ∙ round_behind p (rows_of p node) (lead_from p (head_of p node) step) (some_rows sound inside) none
 
   -- the children of a node that is not clean
   again_below : rows_differ (rows_of p node) ≡ false → is_again p (child node step) ≡ true
   again_below twice = ap (λ rows. not (rows_differ rows)) (child_rows p node step) ∙ ap not (differ_joined (rows_of p node) (lead_from p (head_of p node) step) ∙ ap (λ b. b && (rows_differ (lead_from p (head_of p node) step) && not (list_any (is_listed (rows_of p node)) (lead_from p (head_of p node) step)))) twice)
 
-  home_below : IsSound p → step < length p.leads → has_rounds p (rows_of p node) ≡ true → is_home p (child node step) ≡ true
-  home_below sound inside here =
-      ap (brings_home p) (child_rows p node step) ∙ home_in_front p (rows_of p node) (lead_from p (head_of p node) step) (some_rows sound inside) here
+  round_below : IsSound p → step < length p.leads → has_rounds p (rows_of p node) ≡ true → is_round p (child node step) ≡ true
+  round_below sound inside here =
+      ap (brings_round p) (child_rows p node step) ∙ round_in_front p (rows_of p node) (lead_from p (head_of p node) step) (some_rows sound inside) here
 
   pub cut_below : (most : ℕ) → IsSound p → step < length p.leads → is_clean p node ≡ false → is_cut p most (child node step) ≡ true
   cut_below most sound inside unclean = by (rows_differ (rows_of p node)) refl (has_rounds p (rows_of p node)) refl unclean
@@ -105,7 +105,7 @@ module _ (p : ProblemParts) (node : List ℕ) (step : ℕ) where
 
       by : (d : Bool) → rows_differ (rows_of p node) ≡ d → (h : Bool) → has_rounds p (rows_of p node) ≡ h → (d && not h) ≡ false → is_cut p most (child node step) ≡ true
       by false twice h is none = third (is_long p (child node step)) (is_self_false p (child node step)) (is_again p (child node step)) _ (again_below twice)
-      by true differ true here none = fourth (is_long p (child node step)) (is_self_false p (child node step)) (is_again p (child node step)) (is_home p (child node step)) _ (home_below sound inside here)
+      by true differ true here none = fourth (is_long p (child node step)) (is_self_false p (child node step)) (is_again p (child node step)) (is_round p (child node step)) _ (round_below sound inside here)
       by true differ false here none = absurd (false≢true (sym none))
 
 -- the reasons that a record and marks tell, and the others
@@ -136,10 +136,10 @@ module _ (p : ProblemParts) (t : NumberParts) (node : List ℕ) (step place : �
       let limit : not (nat_lt end.rung lead.limit) ≡ dies_after p head step (length_of p node) =
       ap not (found.known.limit end.rung) ∙ twice (dies_after p head step end.rung) ∙ ap (dies_after p head step) at_end.long in
       ap₂ (λ a b. a || (b || rest)) limit (marked_told p t numbered node marks fresh are differ step place found.told numbers is)
-      ∙ sym (regrouped (nat_lt (part_cap p) (length_of p node + lead_length p step)) (rows_differ (rows_of p (step ∷ []))) (is_again p (child node step)) (brings_home p rows)
+      ∙ sym (regrouped (nat_lt (part_cap p) (length_of p node + lead_length p step)) (rows_differ (rows_of p (step ∷ []))) (is_again p (child node step)) (brings_round p rows)
       (nat_lt (cap p) (length_of p node + lead_length p step + shortest p * at_least p most_rows (head_after p head step))) again rest
       (λ holds. again_child p node step differ holds))
-      ∙ (λ i. sym (long_child p node step) i || (sym (self_false_child p node step) i || (is_again p (child node step) || (sym (home_child p node step sound inside none) i || (sym (far_child p node step most_rows) i || rest)))))
+      ∙ (λ i. sym (long_child p node step) i || (sym (self_false_child p node step) i || (is_again p (child node step) || (sym (round_child p node step sound inside none) i || (sym (far_child p node step most_rows) i || rest)))))
     where
       twice : (b : Bool) → not (not b) ≡ b
       twice true = refl
@@ -166,7 +166,7 @@ module _ (p : ProblemParts) (t : NumberParts) (node : List ℕ) (step place : �
 -- a node that turns back is cut
 pub turned_cut : (p : ProblemParts) (most : ℕ) (node : List ℕ) → is_turned_back p node ≡ true → is_cut p most node ≡ true
 turned_cut p most node turned =
-    sixth (is_long p node) (is_self_false p node) (is_again p node) (is_home p node) (is_far p most node) (is_turned_back p node) (is_hopeless_by_leads p node) turned
+    sixth (is_long p node) (is_self_false p node) (is_again p node) (is_round p node) (is_far p most node) (is_turned_back p node) (is_hopeless_by_leads p node) turned
   where
     sixth : (a b c d e f g : Bool) → f ≡ true → (a || (b || (c || (d || (e || (f || g)))))) ≡ true
     sixth true b c d e f g holds = refl
@@ -178,12 +178,12 @@ turned_cut p most node turned =
 
 -- the first reason, told by the test of each
 abbrev first_of : Bool → Bool → Bool → Bool → Bool → Bool → Bool → Bool → Option Reason
-first_of long self_false again home far many few turned =
-    cond long (Some reason.Long) (cond self_false (Some reason.SelfFalse) (cond again (Some reason.Again) (cond home (Some reason.Home)
+first_of long self_false again round far many few turned =
+    cond long (Some reason.Long) (cond self_false (Some reason.SelfFalse) (cond again (Some reason.Again) (cond round (Some reason.Home)
     (cond far (Some reason.Far) (cond many (Some reason.TooMany) (cond few (Some reason.TooFew) (cond turned (Some reason.TurnsBack) None)))))))
 
-none_first : (long self_false again home far many few turned leads : Bool) → (leads ≡ true → (many || few) ≡ true) →
-    is_none (first_of long self_false again home far many few turned) ≡ not ((long || (self_false || (again || (home || (far || (turned || leads)))))) || (many || few))
+none_first : (long self_false again round far many few turned leads : Bool) → (leads ≡ true → (many || few) ≡ true) →
+    is_none (first_of long self_false again round far many few turned) ≡ not ((long || (self_false || (again || (round || (far || (turned || leads)))))) || (many || few))
 none_first true s a h f m w t l hopeless = refl
 none_first false true a h f m w t l hopeless = refl
 none_first false false true h f m w t l hopeless = refl
@@ -211,7 +211,7 @@ one_of many few (inr h) = or_right many few h
 lives_where : HopelessByLeads → (p : ProblemParts) (most : ℕ) (node : List ℕ) → is_none (dead p most node) ≡ not (is_cut p most node || is_hopeless p node)
 unfolding dead
 lives_where law p most node =
-    none_first (is_long p node) (is_self_false p node) (is_again p node) (is_home p node) (is_far p most node) (is_too_many p node) (is_too_few p node) (is_turned_back p node) (is_hopeless_by_leads p node) (λ leads. one_of (is_too_many p node) (is_too_few p node) (law p node leads))
+    none_first (is_long p node) (is_self_false p node) (is_again p node) (is_round p node) (is_far p most node) (is_too_many p node) (is_too_few p node) (is_turned_back p node) (is_hopeless_by_leads p node) (λ leads. one_of (is_too_many p node) (is_too_few p node) (law p node leads))
 
 pub cut_dies : HopelessByLeads → (p : ProblemParts) (most : ℕ) (node : List ℕ) → is_cut p most node ≡ true → is_none (dead p most node) ≡ false
 cut_dies law p most node cut = lives_where law p most node ∙ ap (λ b. not (b || is_hopeless p node)) cut
@@ -266,10 +266,10 @@ module _ (p : ProblemParts) (most : ℕ) (node : List ℕ) (step : ℕ) (uncut :
   uncut_parts : (is_long p (child node step) ≡ false) × (is_again p (child node step) ≡ false) × (is_hopeless_by_leads p (child node step) ≡ false)
   uncut_parts =
       let by_query = is_turned_back p (child node step) || is_hopeless_by_leads p (child node step) in
-      let (long, rest) = or_parts (is_long p (child node step)) (is_self_false p (child node step) || (is_again p (child node step) || (is_home p (child node step) || (is_far p most (child node step) || by_query)))) uncut in
-      let (self_false, second) = or_parts (is_self_false p (child node step)) (is_again p (child node step) || (is_home p (child node step) || (is_far p most (child node step) || by_query))) rest in
-      let (again, third) = or_parts (is_again p (child node step)) (is_home p (child node step) || (is_far p most (child node step) || by_query)) second in
-      let (home, fourth) = or_parts (is_home p (child node step)) (is_far p most (child node step) || by_query) third in
+      let (long, rest) = or_parts (is_long p (child node step)) (is_self_false p (child node step) || (is_again p (child node step) || (is_round p (child node step) || (is_far p most (child node step) || by_query)))) uncut in
+      let (self_false, second) = or_parts (is_self_false p (child node step)) (is_again p (child node step) || (is_round p (child node step) || (is_far p most (child node step) || by_query))) rest in
+      let (again, third) = or_parts (is_again p (child node step)) (is_round p (child node step) || (is_far p most (child node step) || by_query)) second in
+      let (round, fourth) = or_parts (is_round p (child node step)) (is_far p most (child node step) || by_query) third in
       let (far, fifth) = or_parts (is_far p most (child node step)) by_query fourth in
       let (turned, hopeless) = or_parts (is_turned_back p (child node step)) (is_hopeless_by_leads p (child node step)) fifth in
       (long, again, hopeless)

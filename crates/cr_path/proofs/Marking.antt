@@ -12,7 +12,7 @@ use Rattle.cr_model.specs.Levels.{is_listed}
 use Rattle.cr_model.specs.Sizes.{child}
 use Rattle.cr_model.proofs.Bells.{rows_are_rows, last_is_row}
 use Rattle.cr_model.proofs.Deciding.{rows_differ_decided}
-use Rattle.cr_path.specs.declared.table.LeadRecord.{LeadRecord}
+use Rattle.cr_path.specs.declared.numbers.table.LeadRecord.{LeadRecord}
 use Rattle.cr_path.specs.Marks.{some_marked, row_at, AreSet, AreMarked, HasMarks}
 use Rattle.cr_path.specs.Numbers.{NumberParts, lead_from, numbers_of, IsRecord, IsNumbered}
 use Rattle.cr_path.proofs.Children.{row_laws, child_rows, leads_differ}

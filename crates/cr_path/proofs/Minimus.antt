@@ -13,7 +13,7 @@ use Rattle.cr_model.specs.Examples.{minimus, asks}
 use Rattle.cr_model.proofs.Deciding.{all_decided}
 use Rattle.cr_path.specs.Numbers.{lead_from, power, numbers_of, IsRecord, IsTold, IsNumbered}
 use Rattle.cr_path.specs.Examples.{lead_at, minimus_numbers, minimus_asked, called, called_numbers}
-use Rattle.cr_path.specs.declared.table.LeadRecord.{LeadRecord}
+use Rattle.cr_path.specs.declared.numbers.table.LeadRecord.{LeadRecord}
 
 -- the laws that this rests on
 pub record LevelLaws : Type 0 where
@@ -40,7 +40,7 @@ module _ (laws : LevelLaws) (query : QueryParts) where
   is_deep : 2 ≤ depth p most_rows
   is_deep = laws.greatest p most_rows 2 (record { rows = some_rows; few = few_rows })
 
-  -- how far the heads are from home
+  -- how far the heads are from rounds
   two_away : at_least p most_rows (1 ∷ 3 ∷ 4 ∷ 2 ∷ []) ≡ 2
   unfolding spread
   two_away = laws.listed p most_rows (1 ∷ 3 ∷ 4 ∷ 2 ∷ []) 2 ((laws.level p 2 (1 ∷ 3 ∷ 4 ∷ 2 ∷ [])).0 (0, lit< tt, refl)) is_deep
@@ -49,11 +49,11 @@ module _ (laws : LevelLaws) (query : QueryParts) where
   unfolding spread
   one_away = laws.listed p most_rows (1 ∷ 4 ∷ 2 ∷ 3 ∷ []) 1 ((laws.level p 1 (1 ∷ 4 ∷ 2 ∷ 3 ∷ [])).0 (0, lit< tt, refl)) (omega (arith, is_deep))
 
-  at_home : at_least p most_rows (1 ∷ 2 ∷ 3 ∷ 4 ∷ []) ≡ 0
+  at_round : at_least p most_rows (1 ∷ 2 ∷ 3 ∷ 4 ∷ []) ≡ 0
   unfolding spread
-  at_home = laws.listed p most_rows (1 ∷ 2 ∷ 3 ∷ 4 ∷ []) 0 ((laws.level p 0 (1 ∷ 2 ∷ 3 ∷ 4 ∷ [])).0 (0, lit< tt, refl)) (omega arith)
+  at_round = laws.listed p most_rows (1 ∷ 2 ∷ 3 ∷ 4 ∷ []) 0 ((laws.level p 0 (1 ∷ 2 ∷ 3 ∷ 4 ∷ [])).0 (0, lit< tt, refl)) (omega arith)
 
--- below which length a lead of eight changes may be rung, with home two leads, one or none from its end
+-- below which length a lead of eight changes may be rung, with rounds two leads, one or none from its end
 below_1 : (rung : ℕ) → nat_lt rung 1 ≡ not (nat_lt 24 (rung + 8) || nat_lt 24 (rung + 8 + 8 * 2))
 below_1 rung = grind (arith, nat_tests)
 
@@ -63,7 +63,7 @@ below_9 rung = grind (arith, nat_tests)
 below_17 : (rung : ℕ) → nat_lt rung 17 ≡ not (nat_lt 24 (rung + 8) || nat_lt 24 (rung + 8 + 8 * 0))
 below_17 rung = grind (arith, nat_tests)
 
--- which telling rows stand in a lead, and which other leads have them
+-- which representative rows stand in a lead, and which other leads have them
 module _ (laws : LevelLaws) where
   first_are : (number : ℕ) → number < 3 → list_any (nat_eq number) (numbers_of minimus_numbers 0) ≡ is_listed (lead_from minimus (1 ∷ 2 ∷ 3 ∷ 4 ∷ []) 0) (get_or minimus_numbers.rows number [])
   first_are zero inside = refl
@@ -87,7 +87,7 @@ module _ (laws : LevelLaws) where
   unfolding extent power
   first = record {
     next = record { number = 1; numbered = lit< tt; starts = refl; is = refl };
-    home = refl;
+    round = refl;
     limit = λ rung. below_1 rung
         ∙ ap (λ (leads : ℕ). not (nat_lt 24 (rung + 8) || nat_lt 24 (rung + 8 + 8 * leads))) (sym (two_away laws (asks 1 24 1)));
     long = refl;
@@ -98,7 +98,7 @@ module _ (laws : LevelLaws) where
   unfolding extent power
   second = record {
     next = record { number = 2; numbered = lit< tt; starts = refl; is = refl };
-    home = refl;
+    round = refl;
     limit = λ rung. below_9 rung
         ∙ ap (λ (leads : ℕ). not (nat_lt 24 (rung + 8) || nat_lt 24 (rung + 8 + 8 * leads))) (sym (one_away laws (asks 1 24 1)));
     long = refl;
@@ -109,9 +109,9 @@ module _ (laws : LevelLaws) where
   unfolding extent power
   third = record {
     next = record { number = 0; numbered = lit< tt; starts = refl; is = refl };
-    home = refl;
+    round = refl;
     limit = λ rung. below_17 rung
-        ∙ ap (λ (leads : ℕ). not (nat_lt 24 (rung + 8) || nat_lt 24 (rung + 8 + 8 * leads))) (sym (at_home laws (asks 1 24 1)));
+        ∙ ap (λ (leads : ℕ). not (nat_lt 24 (rung + 8) || nat_lt 24 (rung + 8 + 8 * leads))) (sym (at_round laws (asks 1 24 1)));
     long = refl;
     are = third_are;
   }

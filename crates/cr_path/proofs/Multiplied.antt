@@ -137,23 +137,23 @@ module _ (p : ProblemParts) (node : List ℕ) where
         | inr before ↦ each_new number fewer i low before
       ]
 
-  -- where as many parts as two numbers say come home, the part after the one number brings new rows where that after the other does
+  -- where as many parts as two numbers say come round, the part after the one number brings new rows where that after the other does
   mirrored : (i j : ℕ) → head_of_parts (i + j) ≡ rounds p.stage → list_any (is_listed (rows_of p node)) (part_after i) ≡ false → list_any (is_listed (rows_of p node)) (part_after j) ≡ false
-  mirrored i j home new = all_new_at (rows_of p node) (part_after j) (λ k inside held.
+  mirrored i j round new = all_new_at (rows_of p node) (part_after j) (λ k inside held.
       let rows = rows_of p node in
       let low : k < length (rows_of p node) = omega (arith, inside, part_long j) in
       let (m, under, is) = held in
       let far : get_or (rows_of p node) m [] ≡ product (head_of_parts j) (get_or (rows_of p node) k []) =
       get_or_default (rows_of p node) m [] _ under ∙ is ∙ part_at j k low in
       let undoes : product (head_of_parts i) (head_of_parts j) ≡ rounds p.stage =
-      sym (head_joined row_laws p (repeated i node) (repeated j node)) ∙ ap (head_of p) (sym (repeated_joined i j node)) ∙ home in
+      sym (head_joined row_laws p (repeated i node) (repeated j node)) ∙ ap (head_of p) (sym (repeated_joined i j node)) ∙ round in
       let back : get_or (part_after i) m [] ≡ get_or (rows_of p node) k [] =
       part_at i m under ∙ ap (product (head_of_parts i)) far
       ∙ undone row_laws p.stage (head_of_parts i) (head_of_parts j) (get_or (rows_of p node) k []) (last_is_row row_laws p.stage (changes_of_all p (repeated j node))) undoes (rows_are_rows row_laws p.stage (changes_of_all p node) k [] low) in
       new_at (rows_of p node) (part_after i) new m (omega (arith, under, part_long i)) (subst (Contains (rows_of p node)) (sym back) (k, low, get_or_default (rows_of p node) k _ [] low)))
 
   -- so the first half of them tells of all
-  module _ (number half : ℕ) (home : head_of_parts (number + 1) ≡ rounds p.stage) (within : half ≤ number) (enough : number ≤ 2 * half) where
+  module _ (number half : ℕ) (round : head_of_parts (number + 1) ≡ rounds p.stage) (within : half ≤ number) (enough : number ≤ 2 * half) where
     half_is_new : list_any (is_listed (rows_of p node)) (further number) ≡ false → list_any (is_listed (rows_of p node)) (further half) ≡ false
     half_is_new new = all_new half (λ i low high. each_new number new i low (omega (arith, high, within)))
 
@@ -162,7 +162,7 @@ module _ (p : ProblemParts) (node : List ℕ) where
       | inr near ↦ each_new half new i low near
       | inl far ↦
           let other : number + 1 - i + i ≡ number + 1 = omega (arith, high) in
-          mirrored (number + 1 - i) i (ap head_of_parts other ∙ home) (each_new half new (number + 1 - i) (omega (arith, high)) (omega (arith, far, enough)))
+          mirrored (number + 1 - i) i (ap head_of_parts other ∙ round) (each_new half new (number + 1 - i) (omega (arith, high)) (omega (arith, far, enough)))
     ])
 
     half_told : list_any (is_listed (rows_of p node)) (further half) ≡ list_any (is_listed (rows_of p node)) (further number)
@@ -177,8 +177,8 @@ module _ (p : ProblemParts) (node : List ℕ) where
   -- half of the further parts tell whether all rows of the touch differ
   pub touch_told : (half : ℕ) → rows_differ (rows_of p node) ≡ true → head_of p (touch_of p node) ≡ rounds p.stage → half < parts_of p → parts_of p ≤ 2 * half + 1 →
       none_of (rows_of p node) (further half) ≡ rows_differ (rows_of p (touch_of p node))
-  touch_told half differ home within enough =
+  touch_told half differ round within enough =
       let all : parts_of p - 1 + 1 ≡ parts_of p = omega (arith, within) in
-      ap not (half_told (parts_of p - 1) half (ap head_of_parts all ∙ home) (omega (arith, within)) (omega (arith, enough)))
+      ap not (half_told (parts_of p - 1) half (ap head_of_parts all ∙ round) (omega (arith, within)) (omega (arith, enough)))
       ∙ parts_told (parts_of p - 1) differ
       ∙ ap (λ n. rows_differ (rows_of p (repeated n node))) all

@@ -1,4 +1,4 @@
--- Telling rows and their numbers, one more after another.
+-- Representative rows and their numbers, one more after another.
 use Rattle.std.proofs.Common.{◌≡◌, ℕ, ◌+◌, ◌-◌, ◌<◌, ◌≤◌, Bool, true, false, cond, ◌||◌, nat_eq, List, [], ◌∷◌, ◌++◌, length, get_or, map, take, drop, inl, inr, refl, sym, ap, ap₂, ◌∙◌, subst, arith, eq-eqb, eqb-true, length-append}
 use Rattle.std.specs.Prelude.{All}
 use Rattle.std.specs.List.{list_any}
@@ -8,8 +8,8 @@ use Rattle.std.proofs.lemmas.List.Elements.{All-append, All-same}
 use Rattle.std.proofs.lemmas.List.Folds.{list_any-append, list_any_at}
 use Rattle.cr_rowset.specs.Pushing.{StandsAt}
 use Rattle.cr_path.specs.Rung.{rung_numbers, IsHeld}
-use Rattle.cr_path.specs.Telling.{AreTelling, AreSame, IsListed, AreListed}
-use Rattle.cr_path.specs.declared.numbering.RungLead.{RungLead}
+use Rattle.cr_path.specs.Representatives.{AreRepresentatives, AreSame, IsListed, AreListed}
+use Rattle.cr_path.specs.declared.numbers.rung_leads.RungLead.{RungLead}
 use Rattle.cr_path.proofs.Covering.{holds_among}
 
 -- what is read past the last lead
@@ -24,12 +24,12 @@ still_at rows more row place stands = record {
 }
 
 -- one row more, told or not
-module _ (rows : List (List ℕ)) (cover : List ℕ) (telling : List (List ℕ)) (places later : List ℕ) (done here : ℕ) (row : List ℕ)
-    (are : AreTelling rows cover telling places done) (here_is : here ≡ length telling) (later_is : later ≡ places ++ here ∷ []) (row_is : row ≡ get_or rows done []) where
+module _ (rows : List (List ℕ)) (cover : List ℕ) (representatives : List (List ℕ)) (places later : List ℕ) (done here : ℕ) (row : List ℕ)
+    (are : AreRepresentatives rows cover representatives places done) (here_is : here ≡ length representatives) (later_is : later ≡ places ++ here ∷ []) (row_is : row ≡ get_or rows done []) where
   before : (n : ℕ) → n < done → get_or later n 0 ≡ get_or places n 0
   before n low = ap (λ (ns : List ℕ). get_or ns n 0) later_is ∙ get_or_append_left places (here ∷ []) 0 n (omega (arith, low, are.long))
 
-  last : get_or later done 0 ≡ length telling
+  last : get_or later done 0 ≡ length representatives
   last = ap (λ (ns : List ℕ). get_or ns done 0) later_is ∙ get_or_push places here 0 done are.long ∙ here_is
 
   long_now : length later ≡ done + 1
@@ -38,7 +38,7 @@ module _ (rows : List (List ℕ)) (cover : List ℕ) (telling : List (List ℕ))
   first_now : get_or later 0 0 ≡ 0
   first_now = elim (cases_eq done 0) [
     | inl zero ↦
-        let none : length telling ≡ 0 = elim (cases_eq (length telling) 0) [
+        let none : length representatives ≡ 0 = elim (cases_eq (length representatives) 0) [
           | inl e ↦ e
           | inr some ↦ absurd (omega (arith, (are.each 0 (omega (arith, some))).1, zero))
         ] in
@@ -46,37 +46,37 @@ module _ (rows : List (List ℕ)) (cover : List ℕ) (telling : List (List ℕ))
     | inr some ↦ before 0 (omega (arith, some)) ∙ are.first (omega (arith, some))
   ]
 
-  pub telling_more : (is_telling : Bool) → (is_telling ≡ true → get_or cover done 0 ≡ done) → (get_or cover done 0 ≡ done → is_telling ≡ true)
-      → AreTelling rows cover (telling ++ cond is_telling (row ∷ []) []) later (done + 1)
-  telling_more true there back = record {
+  pub representatives_more : (is_representative : Bool) → (is_representative ≡ true → get_or cover done 0 ≡ done) → (get_or cover done 0 ≡ done → is_representative ≡ true)
+      → AreRepresentatives rows cover (representatives ++ cond is_representative (row ∷ []) []) later (done + 1)
+  representatives_more true there back = record {
     long = long_now;
     placed = λ n low itself. elim (cases_eq n done) [
-      | inl same ↦ subst (λ k. StandsAt (telling ++ row ∷ []) (get_or rows k []) (get_or later k 0)) (sym same) (subst (StandsAt (telling ++ row ∷ []) (get_or rows done [])) (sym last) (record {
-        within = omega (arith, length_push telling row);
-        is = get_or_push telling row [] (length telling) refl ∙ row_is;
+      | inl same ↦ subst (λ k. StandsAt (representatives ++ row ∷ []) (get_or rows k []) (get_or later k 0)) (sym same) (subst (StandsAt (representatives ++ row ∷ []) (get_or rows done [])) (sym last) (record {
+        within = omega (arith, length_push representatives row);
+        is = get_or_push representatives row [] (length representatives) refl ∙ row_is;
       }))
       | inr other ↦
           let less : n < done = omega (arith, low, other) in
-          subst (StandsAt (telling ++ row ∷ []) (get_or rows n [])) (sym (before n less)) (still_at telling (row ∷ []) (get_or rows n []) (get_or places n 0) (are.placed n less itself))
+          subst (StandsAt (representatives ++ row ∷ []) (get_or rows n [])) (sym (before n less)) (still_at representatives (row ∷ []) (get_or rows n []) (get_or places n 0) (are.placed n less itself))
     ];
-    each = λ place low. elim (cases_eq place (length telling)) [
+    each = λ place low. elim (cases_eq place (length representatives)) [
       | inl same ↦ (done, omega arith, there refl, last ∙ sym same)
       | inr other ↦
-          let old = are.each place (omega (arith, low, other, length_push telling row)) in
+          let old = are.each place (omega (arith, low, other, length_push representatives row)) in
           (old.0, omega (arith, old.1), old.2, before old.0 old.1 ∙ old.3)
     ];
     first = λ some. first_now;
   }
-  telling_more false there back = record {
+  representatives_more false there back = record {
     long = long_now;
     placed = λ n low itself. elim (cases_eq n done) [
       | inl same ↦ absurd (cc (back (ap (λ k. get_or cover k 0) (sym same) ∙ itself ∙ same)))
       | inr other ↦
           let less : n < done = omega (arith, low, other) in
-          subst (StandsAt (telling ++ []) (get_or rows n [])) (sym (before n less)) (still_at telling [] (get_or rows n []) (get_or places n 0) (are.placed n less itself))
+          subst (StandsAt (representatives ++ []) (get_or rows n [])) (sym (before n less)) (still_at representatives [] (get_or rows n []) (get_or places n 0) (are.placed n less itself))
     ];
     each = λ place low.
-        let old = are.each place (omega (arith, low, length-append telling [])) in
+        let old = are.each place (omega (arith, low, length-append representatives [])) in
         (old.0, omega (arith, old.1), old.2, before old.0 old.1 ∙ old.3);
     first = λ some. first_now;
   }

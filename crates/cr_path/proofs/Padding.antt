@@ -11,9 +11,9 @@ use Rattle.std.proofs.lemmas.List.Concat.{flat_map-cons}
 use Rattle.std.proofs.lemmas.List.Elements.{All-head, All-tail, All-append, All-replicate, All-take, All-drop, All-same, All-more, All-weaker}
 use Rattle.std.proofs.lemmas.List.Folds.{list_any-append, list_any_at}
 use Rattle.cr_path.specs.Rung.{rung_numbers, IsHeld}
-use Rattle.cr_path.specs.Telling.{AreSame, AreListed, padded, all_padded, AreNamed, IsLike, AreLike}
-use Rattle.cr_path.specs.declared.numbering.RungLead.{RungLead}
-use Rattle.cr_path.specs.declared.table.LeadRecord.{LeadRecord}
+use Rattle.cr_path.specs.Representatives.{AreSame, AreListed, padded, all_padded, AreNamed, IsLike, AreLike}
+use Rattle.cr_path.specs.declared.numbers.rung_leads.RungLead.{RungLead}
+use Rattle.cr_path.specs.declared.numbers.table.LeadRecord.{LeadRecord}
 use Rattle.cr_path.proofs.Names.{no_lead, some_numbers}
 
 -- a name that is none of others does not stand among copies of one of them
@@ -143,19 +143,19 @@ few_more leads index most more inside all is =
     (omega (arith, is, here))
 
 -- the record of one lead more
-pub like_more : (steps : ℕ) (homes : List Bool) (rung : List RungLead) (leads next : List LeadRecord) (done : ℕ) (one : RungLead) (lead : LeadRecord)
-    → AreLike steps homes rung leads done → done < length rung → one ≡ get_or rung done one → IsLike steps homes one lead → next ≡ leads ++ lead ∷ []
-    → AreLike steps homes rung next (done + 1)
-like_more steps homes rung leads next done one lead are inside one_is like next_is = record {
+pub like_more : (steps : ℕ) (round_heads : List Bool) (rung : List RungLead) (leads next : List LeadRecord) (done : ℕ) (one : RungLead) (lead : LeadRecord)
+    → AreLike steps round_heads rung leads done → done < length rung → one ≡ get_or rung done one → IsLike steps round_heads one lead → next ≡ leads ++ lead ∷ []
+    → AreLike steps round_heads rung next (done + 1)
+like_more steps round_heads rung leads next done one lead are inside one_is like next_is = record {
   long = ap length next_is ∙ length_push leads lead ∙ ap (λ n. n + 1) are.long;
   each = λ i d e low. elim (cases_eq i done) [
     | inl last ↦
         let rung_is : get_or rung i d ≡ one = ap (λ n. get_or rung n d) last ∙ get_or_default rung done d one inside ∙ sym one_is in
         let lead_is : get_or next i e ≡ lead = ap₂ (λ (xs : List LeadRecord) (n : ℕ). get_or xs n e) next_is last ∙ get_or_push leads lead e done are.long in
-        subst (λ (r : RungLead). IsLike steps homes r (get_or next i e)) (sym rung_is) (subst (IsLike steps homes one) (sym lead_is) like)
+        subst (λ (r : RungLead). IsLike steps round_heads r (get_or next i e)) (sym rung_is) (subst (IsLike steps round_heads one) (sym lead_is) like)
     | inr other ↦
         let earlier : i < done = omega (arith, low, other) in
         let lead_is : get_or next i e ≡ get_or leads i e = ap (λ (xs : List LeadRecord). get_or xs i e) next_is ∙ get_or_append_left leads (lead ∷ []) e i (omega (arith, earlier, are.long)) in
-        subst (IsLike steps homes (get_or rung i d)) (sym lead_is) (are.each i d e earlier)
+        subst (IsLike steps round_heads (get_or rung i d)) (sym lead_is) (are.each i d e earlier)
   ];
 }

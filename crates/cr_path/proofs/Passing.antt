@@ -12,7 +12,7 @@ use Rattle.cr_model.specs.Levels.{is_listed}
 use Rattle.cr_model.specs.Queries.{repeated}
 use Rattle.cr_model.proofs.Below.{words}
 use Rattle.cr_model.proofs.Ringing.{rows_from-append, last_of-append, changes-append, rung_from, product_of_rounds}
-use Rattle.cr_path.specs.declared.table.LeadRecord.{LeadRecord}
+use Rattle.cr_path.specs.declared.numbers.table.LeadRecord.{LeadRecord}
 use Rattle.cr_path.specs.Marks.{some_marked, AreOf}
 use Rattle.cr_path.specs.Numbers.{NumberParts, lead_from, head_after, numbers_of, IsBase, IsRecord, IsTold, IsNumbered}
 use Rattle.cr_path.specs.Parts.{IsHead, HasHead, IsPassed, Passes}

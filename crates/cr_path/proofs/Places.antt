@@ -5,7 +5,7 @@ use Rattle.std.proofs.lemmas.Nat.{row_fits, div-mul-add}
 use Rattle.cr_row.specs.Rows.{rounds}
 use Rattle.cr_model.specs.Problems.{ProblemParts}
 use Rattle.cr_model.specs.Levels.{is_listed}
-use Rattle.cr_path.specs.declared.table.LeadRecord.{LeadRecord}
+use Rattle.cr_path.specs.declared.numbers.table.LeadRecord.{LeadRecord}
 use Rattle.cr_path.specs.Marks.{row_at}
 use Rattle.cr_path.specs.Numbers.{NumberParts, lead_from, head_after, numbers_of, IsBase, StartsHead, IsRecord, IsTold, IsNumbered}
 

@@ -14,11 +14,11 @@ use Rattle.cr_model.specs.Problems.{ProblemParts}
 use Rattle.cr_model.specs.Callings.{lead_length}
 use Rattle.cr_model.specs.Dead.{parts_of, has_rounds}
 use Rattle.cr_rowset.specs.Stacks.{AllDiffer}
-use Rattle.cr_path.specs.Numbers.{lead_from, head_after, brings_home, dies_after}
+use Rattle.cr_path.specs.Numbers.{lead_from, head_after, brings_round, dies_after}
 use Rattle.cr_path.specs.Rung.{RungParts, IsHeld, IsRungLead, IsRung}
-use Rattle.cr_path.specs.Numbering.{IsKept, HasNumber, AreNumbered, IsBegun}
+use Rattle.cr_path.specs.RungLeads.{IsKept, HasNumber, AreNumbered, IsBegun}
 use Rattle.cr_path.specs.Leads.{has_first}
-use Rattle.cr_path.specs.declared.numbering.RungLead.{RungLead}
+use Rattle.cr_path.specs.declared.numbers.rung_leads.RungLead.{RungLead}
 use Rattle.cr_path.proofs.Children.{lead_long}
 use Rattle.cr_path.proofs.Places.{record_within}
 use Rattle.cr_path.proofs.Grown.{kept_by, heads_more, same_rows, all_kept}
@@ -45,7 +45,7 @@ module _ (p : ProblemParts) (rows : List (List ℕ)) (some : 0 < length rows) (f
       (one_first number (All-head (λ n. n < length rows) number numbers all))
       (some_first numbers (All-tail (λ n. n < length rows) number numbers all))
 
-  pub first_told : (numbers : List ℕ) → All (λ number. number < length rows) numbers → has_first p numbers ≡ brings_home p (map at numbers)
+  pub first_told : (numbers : List ℕ) → All (λ number. number < length rows) numbers → has_first p numbers ≡ brings_round p (map at numbers)
   first_told numbers all =
       let place : length (map at numbers) ≡ length numbers = length-map numbers at in
       let front : list_any (nat_eq 0) (take (length numbers - 1) numbers) ≡ has_rounds p (take (length (map at numbers) - 1) (map at numbers)) =
@@ -57,14 +57,14 @@ module _ (p : ProblemParts) (rows : List (List ℕ)) (some : 0 < length rows) (f
       ap₂ (λ (a b : Bool). a || (b && nat_lt 1 (parts_of p))) front back
 
 -- whether rows that were numbered bring rounds too early
-pub home_told : (p : ProblemParts) (old new : RungParts) (done start : ℕ) (rung : List (List ℕ)) → IsBegun p old done
+pub round_told : (p : ProblemParts) (old new : RungParts) (done start : ℕ) (rung : List (List ℕ)) → IsBegun p old done
     → AreNumbered old.rows old.numbers rung new.rows new.numbers → AllDiffer new.rows → start ≡ length old.numbers
-    → has_first p (drop start new.numbers) ≡ brings_home p rung
-home_told p old new done start rung begun are differ start_is =
+    → has_first p (drop start new.numbers) ≡ brings_round p rung
+round_told p old new done start rung begun are differ start_is =
     ap (λ (ns : List ℕ). has_first p (drop start ns)) are.joined
     ∙ ap (has_first p) (drop_at old.numbers are.more start (sym start_is))
     ∙ first_told p new.rows (omega (arith, begun.some_row, are.kept.long)) (are.kept.same 0 begun.some_row ∙ begun.first_row) differ are.more are.within
-    ∙ ap (brings_home p) are.are
+    ∙ ap (brings_round p) are.are
 
 -- a record stays one while heads, rows and numbers are added
 pub record_kept : (p : ProblemParts) (old new : RungParts) (more head : List ℕ) (step : ℕ) (lead : RungLead) → IsKept old.heads new.heads

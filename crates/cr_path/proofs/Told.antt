@@ -1,4 +1,4 @@
--- Telling rows of leads that were rung are numbers of the problem.
+-- Representative rows of leads that were rung are numbers of the problem.
 use Rattle.std.proofs.Common.{◌≡◌, ℕ, ◌+◌, ◌-◌, ◌*◌, ◌<◌, Bool, true, false, nat_eq, nat_lt, List, [], length, get_or, map, take, drop, refl, sym, ap, ap₂, ◌∙◌, subst, arith, eq-eqb, eqb-true}
 use Rattle.std.specs.Prelude.{All}
 use Rattle.std.specs.List.{list_any}
@@ -8,23 +8,23 @@ use Rattle.cr_model.specs.Problems.{ProblemParts}
 use Rattle.cr_model.specs.Levels.{is_listed}
 use Rattle.cr_rowset.specs.Pushing.{StandsAt}
 use Rattle.cr_path.specs.Covers.{CoversItself, IsCovered, StaysWithin, IsCover}
-use Rattle.cr_path.specs.Numbers.{NumberParts, lead_from, all_fitting, comes_home, IsRecord, IsTold, IsNumbered}
-use Rattle.cr_path.specs.Facts.{false_leads}
+use Rattle.cr_path.specs.Numbers.{NumberParts, lead_from, all_fitting, comes_round, IsRecord, IsTold, IsNumbered}
+use Rattle.cr_path.specs.PathLimits.{false_leads}
 use Rattle.cr_path.specs.Rung.{RungParts, rung_numbers, IsRungLead, IsRung}
-use Rattle.cr_path.specs.Telling.{AreTelling, AreSame, name_of, HasName, IsLike, AreLike, AreNamed}
-use Rattle.cr_path.specs.declared.numbering.RungLead.{RungLead}
-use Rattle.cr_path.specs.declared.table.LeadRecord.{LeadRecord}
+use Rattle.cr_path.specs.Representatives.{AreRepresentatives, AreSame, name_of, HasName, IsLike, AreLike, AreNamed}
+use Rattle.cr_path.specs.declared.numbers.rung_leads.RungLead.{RungLead}
+use Rattle.cr_path.specs.declared.numbers.table.LeadRecord.{LeadRecord}
 use Rattle.cr_path.proofs.Covering.{both_pass, IsAmong, holds_among, any_from, any_at, among_listed, listed_among}
 use Rattle.cr_path.proofs.Names.{no_lead}
 use Rattle.cr_path.proofs.Places.{record_within}
 
 module _ (p : ProblemParts) (t : RungParts) (rung : IsRung p t) (cover : List ℕ) (covers : IsCover (length t.rows) t.numbers t.records cover)
-    (telling : List (List ℕ)) (places : List ℕ) (told : AreTelling t.rows cover telling places (length t.rows)) where
+    (representatives : List (List ℕ)) (places : List ℕ) (told : AreRepresentatives t.rows cover representatives places (length t.rows)) where
   abbrev at : ℕ → List ℕ
   at n = get_or t.rows n []
 
   abbrev told_at : ℕ → List ℕ
-  told_at n = get_or telling n []
+  told_at n = get_or representatives n []
 
   abbrev name : ℕ → ℕ
   name n = name_of cover places n
@@ -33,13 +33,13 @@ module _ (p : ProblemParts) (t : RungParts) (rung : IsRung p t) (cover : List �
   own : (n : ℕ) → n < length t.rows → CoversItself cover (get_or cover n 0)
   own n inside = covers.themselves n 0 (omega (arith, inside, covers.long))
 
-  stands : (n : ℕ) → n < length t.rows → StandsAt telling (at (get_or cover n 0)) (name n)
+  stands : (n : ℕ) → n < length t.rows → StandsAt representatives (at (get_or cover n 0)) (name n)
   stands n inside =
       let itself : CoversItself cover (get_or cover n 0) = own n inside in
       told.placed (get_or cover n 0) (omega (arith, itself.0, covers.long)) itself.1
 
-  pub all_have_names : All (HasName cover places (length telling)) t.numbers
-  all_have_names = All-weaker (λ n. n < length t.rows) (HasName cover places (length telling)) (λ n inside.
+  pub all_have_names : All (HasName cover places (length representatives)) t.numbers
+  all_have_names = All-weaker (λ n. n < length t.rows) (HasName cover places (length representatives)) (λ n inside.
       let itself : CoversItself cover (get_or cover n 0) = own n inside in
       (omega (arith, inside, covers.long), omega (arith, itself.0, covers.long, told.long), (stands n inside).within)) t.numbers rung.within
 
@@ -62,8 +62,8 @@ module _ (p : ProblemParts) (t : RungParts) (rung : IsRung p t) (cover : List �
     row_of_name : (n : ℕ) → IsAmong n ns → told_at (name n) ≡ at (get_or cover n 0)
     row_of_name n among = (stands n (inside_of n among)).is
 
-    -- a telling row stands in the lead where its number is a name there
-    names_listed : (k : ℕ) → k < length telling → list_any (nat_eq k) (map name ns) ≡ is_listed (map at ns) (told_at k)
+    -- a representative row stands in the lead where its number is a name there
+    names_listed : (k : ℕ) → k < length representatives → list_any (nat_eq k) (map name ns) ≡ is_listed (map at ns) (told_at k)
     names_listed k inside = both_pass (list_any (nat_eq k) (map name ns)) (is_listed (map at ns) (told_at k))
         (λ among.
         let from = named_from k among in
@@ -77,7 +77,7 @@ module _ (p : ProblemParts) (t : RungParts) (rung : IsRung p t) (cover : List �
         let same : name row ≡ k = ap (λ n. get_or places n 0) from.2 ∙ from.3 in
         subst (λ m. IsAmong m (map name ns)) same (name_among row among))
 
-  -- two leads have a row in common where they have a telling row in common
+  -- two leads have a row in common where they have a representative row in common
   module _ (ns ms names : List ℕ) (ns_in : All (λ n. n < length t.rows) ns) (ms_in : All (λ n. n < length t.rows) ms) (ns_stay : StaysWithin cover ns) (ms_stay : StaysWithin cover ms)
       (same : (k : ℕ) → list_any (nat_eq k) names ≡ list_any (nat_eq k) (map name ns)) where
     abbrev in_other : List ℕ → Bool
@@ -99,12 +99,12 @@ module _ (p : ProblemParts) (t : RungParts) (rung : IsRung p t) (cover : List �
         any_at in_other at ns (get_or cover n 0) (cover_among ns ns_in ns_stay n from.1)
         (ap in_other (sym (ap told_at from.2 ∙ row_of_name ns ns_in ns_stay n from.1)) ∙ found.2))
 
-  module _ (records : List LeadRecord) (homes : List Bool) (width : ℕ) (names : List ℕ) (twice : List Bool)
-      (like : AreLike t.steps homes t.records records (length t.records)) (homes_are : homes ≡ map (comes_home p) t.heads)
-      (named : AreNamed t.numbers name (length telling) width t.records names) (twice_is : twice ≡ false_leads p (length p.leads))
+  module _ (records : List LeadRecord) (round_heads : List Bool) (width : ℕ) (names : List ℕ) (twice : List Bool)
+      (like : AreLike t.steps round_heads t.records records (length t.records)) (round_heads_are : round_heads ≡ map (comes_round p) t.heads)
+      (named : AreNamed t.numbers name (length representatives) width t.records names) (twice_is : twice ≡ false_leads p (length p.leads))
       (fittings : List (List ℕ)) (fitting : fittings ≡ map (all_fitting p t.heads) p.query.patterns) where
     abbrev whole : NumberParts
-    whole = record { steps = t.steps; heads = t.heads; rows = telling; records = records; width = width; numbers = names; twice = twice; fittings = fittings }
+    whole = record { steps = t.steps; heads = t.heads; rows = representatives; records = records; width = width; numbers = names; twice = twice; fittings = fittings }
 
     -- the lead of a step from a head
     module _ (head step : ℕ) (head_in : head < length t.heads) (step_in : step < t.steps) where
@@ -137,14 +137,14 @@ module _ (p : ProblemParts) (t : RungParts) (rung : IsRung p t) (cover : List �
         abbrev lead : LeadRecord
         lead = get_or records place d
 
-        is_like : IsLike t.steps homes lead_rung lead
+        is_like : IsLike t.steps round_heads lead_rung lead
         is_like = like.each place no_lead d low
 
         is_record : IsRecord p whole (get_or t.heads head []) step place lead
         is_record = record {
           next = record { number = lead_rung.next; numbered = is_rung.next; starts = is_like.next; is = is_rung.leads_to };
-          home = is_like.home ∙ ap (λ (flags : List Bool). get_or flags lead_rung.next false) homes_are
-              ∙ get_or-map (comes_home p) t.heads lead_rung.next [] false is_rung.next ∙ ap (comes_home p) is_rung.leads_to;
+          round = is_like.round ∙ ap (λ (flags : List Bool). get_or flags lead_rung.next false) round_heads_are
+              ∙ get_or-map (comes_round p) t.heads lead_rung.next [] false is_rung.next ∙ ap (comes_round p) is_rung.leads_to;
           limit = λ changes. ap (nat_lt changes) is_like.limit ∙ is_rung.limit changes;
           long = is_like.long ∙ is_rung.long;
           are = λ k inside. are_named.same k ∙ names_listed lead_numbers numbers_in numbers_stay k inside

@@ -12,8 +12,8 @@ use Rattle.cr_model.specs.Decided.{rotated}
 use Rattle.cr_model.specs.Queries.{fits, rows_fitting}
 use Rattle.cr_path.specs.Best.{IsWay}
 use Rattle.cr_path.specs.Numbers.{NumberParts, lead_from, lead_fitting, leads_fitting, IsBase, IsRecord, IsNumbered}
-use Rattle.cr_path.specs.declared.table.LeadRecord.{LeadRecord}
-use Rattle.cr_path.specs.declared.turning.Way.{Way}
+use Rattle.cr_path.specs.declared.numbers.table.LeadRecord.{LeadRecord}
+use Rattle.cr_path.specs.declared.numbers.rotated_patterns.Way.{Way}
 use Rattle.cr_path.proofs.Children.{child_rows, child_head}
 use Rattle.cr_path.proofs.Fitting.{at_lead}
 use Rattle.cr_path.proofs.Places.{record_at, root_base}

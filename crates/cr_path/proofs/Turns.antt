@@ -3,7 +3,7 @@ use Rattle.std.proofs.Common.{◌≡◌, ℕ, true, false, ◌&&◌, List, ap, a
 use Rattle.std.proofs.lemmas.Bool.{and_parts, false_from_ne_true}
 use Rattle.cr_model.specs.Problems.{ProblemParts}
 use Rattle.cr_model.specs.Dead.{is_turned_back, turn_free, turns_back}
-use Rattle.cr_model.specs.Turning.{TurnsBack}
+use Rattle.cr_model.specs.LeastRotations.{TurnsBack}
 use Rattle.cr_model.proofs.TurnedBack.{turns_back_decided}
 
 -- where the query is the same for all rotations, those whose word does

@@ -7,7 +7,8 @@ use Rattle.cr_model.specs.Sizes.{most_rows, child}
 use Rattle.cr_model.specs.Sound.{IsSound, sound_steps}
 use Rattle.cr_path.specs.Living.{is_clean, is_cut, AreCut, IsFirst, IsFirstUncut}
 use Rattle.cr_query.specs.Sets.{has_step}
-use Rattle.cr_path.specs.Sets.{IsLeast, AreUncut, AreSeen}
+use Rattle.cr_query.specs.Sets.{IsLeast}
+use Rattle.cr_path.specs.Sets.{AreUncut, AreSeen}
 use Rattle.cr_path.proofs.Living.{cut_below, turned_cut}
 
 pub few_steps : (p : ProblemParts) → IsSound p → length p.leads ≤ 24

@@ -11,36 +11,36 @@ use Rattle.cr_model.specs.Sizes.{child}
 use Rattle.cr_model.specs.Sound.{IsSound}
 use Rattle.cr_model.specs.Dead.{turn_free}
 use Rattle.cr_leads.specs.Tables.{TableParts, lead_table}
-use Rattle.cr_path.specs.declared.counting.Counting.{Counting}
-use Rattle.cr_path.specs.declared.ends.LeadEnd.{LeadEnd}
-use Rattle.cr_path.specs.declared.table.LeadRecord.{LeadRecord}
+use Rattle.cr_path.specs.declared.walks.node_counts.Counting.{Counting}
+use Rattle.cr_path.specs.declared.walks.ends.LeadEnd.{LeadEnd}
+use Rattle.cr_path.specs.declared.numbers.table.LeadRecord.{LeadRecord}
 use Rattle.cr_path.specs.Counted.{IsCounted}
 use Rattle.cr_path.specs.Ends.{EndsParts, IsEnd, AreEnds, HasEnds}
 use Rattle.cr_path.specs.Marks.{MarksParts, AreSet, AreMarked, HasMarks}
-use Rattle.cr_path.specs.Numbers.{NumberParts, numbers_of, comes_home, IsBase, IsRecord, IsNumbered}
+use Rattle.cr_path.specs.Numbers.{NumberParts, numbers_of, comes_round, IsBase, IsRecord, IsNumbered}
 use Rattle.cr_path.specs.Sets.{AreUncut}
 use Rattle.cr_path.specs.Walks.{IsWalk, parent}
 use mir.Val.{bool_byte}
 use Rattle.cr_path.proofs.Children.{child_head, child_length, part_few, few_leads, valid_first, last_step}
 use Rattle.cr_path.proofs.Marking.{within_in, node_differs, none_unmarked, marked_more, marked_less, marked_same, marked_stays}
 use Rattle.cr_path.proofs.Places.{record_at, root_base}
-use Rattle.cr_path.proofs.Homes.{root_home}
-use Rattle.cr_path.proofs.StepSets.{none_of_zero}
+use Rattle.cr_path.proofs.ComingRound.{root_round}
+use Rattle.cr_query.proofs.StepBits.{none_of_zero}
 use Rattle.cr_path.proofs.Uncut.{none_left}
 
 -- what is read past the last record
 pub no_record : LeadRecord
-no_record = record { next = 0; limit = 0; length = 0; home = false }
+no_record = record { next = 0; limit = 0; length = 0; round = false }
 
 -- before any lead
 abbrev pub root_end : LeadEnd
-root_end = record { base = 0; rung = 0; left = 0; home = 1 }
+root_end = record { base = 0; rung = 0; left = 0; round = 1 }
 
 root_ends : (p : ProblemParts) (t : NumberParts) → IsNumbered p t → (i : ℕ) (d : LeadEnd) → i ≤ 0 → IsEnd p t (take i []) (get_or (root_end ∷ []) i d)
 root_ends p t numbered zero d within = record {
   from = root_base p t numbered;
   long = refl;
-  home = root_home p;
+  round = root_round p;
 }
 root_ends p t numbered (suc i) d within = absurd (omega (arith, within))
 
@@ -82,12 +82,12 @@ one_of true = refl
 one_of false = refl
 
 -- the end of one lead more
-pub next_end : (p : ProblemParts) (t : NumberParts) (node : List ℕ) (step : ℕ) (end : LeadEnd) (lead : LeadRecord) (left home : ℕ) → IsEnd p t node end → IsRecord p t (head_of p node) step (end.base + step) lead
-    → home ≡ bool_byte lead.home → IsEnd p t (child node step) (record { base = lead.next; rung = end.rung + lead.length; left = left; home = home })
-next_end p t node step end lead left home at_end known home_is = record {
+pub next_end : (p : ProblemParts) (t : NumberParts) (node : List ℕ) (step : ℕ) (end : LeadEnd) (lead : LeadRecord) (left round : ℕ) → IsEnd p t node end → IsRecord p t (head_of p node) step (end.base + step) lead
+    → round ≡ bool_byte lead.round → IsEnd p t (child node step) (record { base = lead.next; rung = end.rung + lead.length; left = left; round = round })
+next_end p t node step end lead left round at_end known round_is = record {
   from = subst (λ (row : List ℕ). IsBase t row lead.next) (sym (child_head p node step)) known.next;
   long = omega (arith, at_end.long, known.long, child_length p node step);
-  home = ap (λ n. nat_eq n 1) home_is ∙ one_of lead.home ∙ known.home ∙ ap (comes_home p) (sym (child_head p node step));
+  round = ap (λ n. nat_eq n 1) round_is ∙ one_of lead.round ∙ known.round ∙ ap (comes_round p) (sym (child_head p node step));
 }
 
 -- its length fits

@@ -8,7 +8,7 @@ use Rattle.cr_model.specs.Queries.{rows_fitting}
 use Rattle.cr_model.specs.Touches.{IsLess}
 use Rattle.cr_query.specs.Meeting.{MeetsByRows}
 use Rattle.cr_path.specs.Numbers.{NumberParts, IsBase}
-use Rattle.cr_path.specs.declared.turning.Way.{Way}
+use Rattle.cr_path.specs.declared.numbers.rotated_patterns.Way.{Way}
 
 -- no rotation is less and meets each pattern
 abbrev pub HasNoneBetter : ProblemParts → List ℕ → Type 0

@@ -7,7 +7,7 @@ use Rattle.cr_model.specs.Sizes.{child}
 use Rattle.cr_query.specs.Meters.{MeterParts, meter_from, is_hopeless_by_leads}
 use Rattle.cr_query.specs.Sets.{has_step}
 use Rattle.cr_path.specs.Numbers.{NumberParts, IsBase, IsNumbered}
-use Rattle.cr_path.specs.declared.counting.Counting.{Counting}
+use Rattle.cr_path.specs.declared.walks.node_counts.Counting.{Counting}
 
 -- a query has no counts, no patterns and no limits on changes of method
 pub record AsksNothing (query : QueryParts) : Type 0 where

@@ -2,7 +2,7 @@
 use Rattle.std.specs.Prelude.{◌≡◌, ℕ, ◌<◌, true, nat_eq, List, length, get_or, All}
 use Rattle.std.specs.List.{list_any}
 use Rattle.cr_path.specs.Rung.{rung_numbers}
-use Rattle.cr_path.specs.declared.numbering.RungLead.{RungLead}
+use Rattle.cr_path.specs.declared.numbers.rung_leads.RungLead.{RungLead}
 
 -- a row covers itself
 abbrev pub CoversItself : List ℕ → ℕ → Type 0

@@ -2,19 +2,19 @@
 use Rattle.std.specs.Prelude.{◌≡◌, ℕ, nat_eq, ◌+◌, ◌-◌, ◌<◌, ◌≤◌, List, [], ◌∷◌, ◌++◌, length, get_or, take}
 use Rattle.cr_model.specs.Problems.{ProblemParts}
 use Rattle.cr_model.specs.Callings.{length_of, head_of}
-use Rattle.cr_path.specs.Numbers.{NumberParts, IsBase, comes_home}
+use Rattle.cr_path.specs.Numbers.{NumberParts, IsBase, comes_round}
 use Rattle.cr_path.specs.Sets.{AreUncut}
-use Rattle.cr_path.specs.declared.ends.LeadEnd.{LeadEnd}
+use Rattle.cr_path.specs.declared.walks.ends.LeadEnd.{LeadEnd}
 
 -- the last step of a node
 abbrev pub final_step : List ℕ → ℕ
 final_step node = get_or node (length node - 1) 0
 
--- the end of a calling: where the records of its head start, how many changes lead there, and whether its head comes home
+-- the end of a calling: where the records of its head start, how many changes lead there, and whether its head comes round
 pub record IsEnd (p : ProblemParts) (t : NumberParts) (calling : List ℕ) (end : LeadEnd) : Type 0 where
   pub from : IsBase t (head_of p calling) end.base
   pub long : end.rung ≡ length_of p calling
-  pub home : nat_eq end.home 1 ≡ comes_home p (head_of p calling)
+  pub round : nat_eq end.round 1 ≡ comes_round p (head_of p calling)
 
 -- the ends of a node's leads, from the first on, and before them the end of no lead: of each front of the node the children are left by the steps after the one that the node takes there, and of the node itself those from the next one on
 pub record AreEnds (p : ProblemParts) (t : NumberParts) (node : List ℕ) (next : ℕ) (ends : List LeadEnd) : Type 0 where

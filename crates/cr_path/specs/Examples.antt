@@ -2,14 +2,14 @@
 use Rattle.std.specs.Prelude.{ℕ, ◌+◌, Bool, true, false, [], ◌∷◌}
 use Rattle.cr_model.specs.Problems.{QueryParts, ProblemParts}
 use Rattle.cr_model.specs.Examples.{minimus, pair, asks}
-use Rattle.cr_path.specs.declared.table.LeadRecord.{LeadRecord}
+use Rattle.cr_path.specs.declared.numbers.table.LeadRecord.{LeadRecord}
 use Rattle.cr_path.specs.Numbers.{NumberParts}
 
 -- the record of a lead of eight changes
 abbrev pub lead_at : ℕ → ℕ → Bool → LeadRecord
-lead_at next limit home = record { next = next; limit = limit; length = 8; home = home }
+lead_at next limit round = record { next = next; limit = limit; length = 8; round = round }
 
--- three heads, and three telling rows: rounds, which is the last row of the third lead, and the first rows of the other two. No two leads have a row in common. Home is two leads from the end of the first lead, one from that of the second, and at the end of the third
+-- three heads, and three representative rows: rounds, which is the last row of the third lead, and the first rows of the other two. No two leads have a row in common. Rounds is two leads from the end of the first lead, one from that of the second, and at the end of the third
 abbrev pub minimus_numbers : NumberParts
 minimus_numbers = record {
   steps = 1;
@@ -22,7 +22,7 @@ minimus_numbers = record {
   fittings = [];
 }
 
--- two leads from rounds, with and without a call. Their first seven rows are the same and their last rows differ. The first lead has one telling row, the first or the last of its own, and the second has the first
+-- two leads from rounds, with and without a call. Their first seven rows are the same and their last rows differ. The first lead has one representative row, the first or the last of its own, and the second has the first
 abbrev pub called : ProblemParts
 called = pair (asks 1 24 1)
 

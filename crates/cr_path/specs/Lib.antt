@@ -2,10 +2,10 @@ pub mod Numbers
 pub mod Ends
 pub mod Marks
 pub mod Rung
-pub mod Numbering
+pub mod RungLeads
 pub mod Covers
-pub mod Telling
-pub mod Facts
+pub mod Representatives
+pub mod PathLimits
 pub mod Leads
 pub mod Begun
 pub mod Examples

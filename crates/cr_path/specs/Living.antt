@@ -3,7 +3,7 @@ use Rattle.std.specs.Prelude.{◌≡◌, ℕ, ◌<◌, ◌≤◌, Bool, true, fa
 use Rattle.cr_model.specs.Problems.{ProblemParts}
 use Rattle.cr_model.specs.Callings.{rows_of}
 use Rattle.cr_model.specs.Decided.{rows_differ}
-use Rattle.cr_model.specs.Dead.{has_rounds, is_long, is_self_false, is_again, is_home, is_far, is_too_many, is_too_few, is_turned_back, dead}
+use Rattle.cr_model.specs.Dead.{has_rounds, is_long, is_self_false, is_again, is_round, is_far, is_too_many, is_too_few, is_turned_back, dead}
 use Rattle.cr_model.specs.Sizes.{child}
 use Rattle.cr_query.specs.Meters.{is_hopeless_by_leads}
 
@@ -14,7 +14,7 @@ is_clean p node = rows_differ (rows_of p node) && not (has_rounds p (rows_of p n
 -- a reason to be dead holds of the node that is told without counting rows that fit patterns
 abbrev pub is_cut : ProblemParts → ℕ → List ℕ → Bool
 is_cut p most node =
-    is_long p node || (is_self_false p node || (is_again p node || (is_home p node || (is_far p most node || (is_turned_back p node || is_hopeless_by_leads p node)))))
+    is_long p node || (is_self_false p node || (is_again p node || (is_round p node || (is_far p most node || (is_turned_back p node || is_hopeless_by_leads p node)))))
 
 -- it has too many or too few of what the query counts
 abbrev pub is_hopeless : ProblemParts → List ℕ → Bool

@@ -11,10 +11,10 @@ use Rattle.cr_model.specs.Decided.{rows_differ}
 use Rattle.cr_model.specs.Dead.{parts_of, has_rounds}
 use Rattle.cr_model.specs.Levels.{at_least, is_listed}
 use Rattle.cr_model.specs.Sizes.{most_rows}
-use Rattle.cr_path.specs.Facts.{false_leads}
-use Rattle.cr_path.specs.declared.table.LeadRecord.{LeadRecord}
+use Rattle.cr_path.specs.PathLimits.{false_leads}
+use Rattle.cr_path.specs.declared.numbers.table.LeadRecord.{LeadRecord}
 
--- the number of steps; the heads, each at its number; the telling rows, each at its number; a record of each lead, of the first head's steps first; how many numbers each lead has, and in the order of the records the numbers of the telling rows of all leads; of each step whether its lead has a row twice; and of each pattern, in the order of the records, how many rows of each lead fit it
+-- the number of steps; the heads, each at its number; the representative rows, each at its number; a record of each lead, of the first head's steps first; how many numbers each lead has, and in the order of the records the numbers of the representative rows of all leads; of each step whether its lead has a row twice; and of each pattern, in the order of the records, how many rows of each lead fit it
 pub record NumberParts : Type 0 where
   pub steps : ℕ
   pub heads : List (List ℕ)
@@ -43,17 +43,17 @@ abbrev pub all_fitting : ProblemParts → List (List ℕ) → PatternParts → L
 all_fitting p heads pattern = flat_map (leads_fitting p pattern.cells) heads
 
 -- some rows have rounds before the last one, or last where there are several parts
-abbrev pub brings_home : ProblemParts → List (List ℕ) → Bool
-brings_home p rows =
+abbrev pub brings_round : ProblemParts → List (List ℕ) → Bool
+brings_round p rows =
     has_rounds p (take (length rows - 1) rows)
     || (has_rounds p (drop (length rows - 1) rows) && nat_lt 1 (parts_of p))
 
--- after so many changes, a step that is rung from a head is dead whatever was rung before: it is then too long, has a row twice in itself, brings rounds too early, or home is too far from its end
+-- after so many changes, a step that is rung from a head is dead whatever was rung before: it is then too long, has a row twice in itself, brings rounds too early, or rounds is too far from its end
 abbrev pub dies_after : ProblemParts → List ℕ → ℕ → ℕ → Bool
 dies_after p head step rung =
     nat_lt (part_cap p) (rung + lead_length p step)
     || (not (rows_differ (rows_of p (step ∷ [])))
-    || (brings_home p (lead_from p head step)
+    || (brings_round p (lead_from p head step)
     || nat_lt (cap p) (rung + lead_length p step + shortest p * at_least p most_rows (head_after p head step))))
 
 -- rounds of a stage by a row, so many times
@@ -62,10 +62,10 @@ power stage row zero = rounds stage
 power stage row (suc number) = product (power stage row number) row
 
 -- a row leads to rounds as often as there are parts
-abbrev pub comes_home : ProblemParts → List ℕ → Bool
-comes_home p row = pointwise nat_eq (power p.stage row (parts_of p)) (rounds p.stage)
+abbrev pub comes_round : ProblemParts → List ℕ → Bool
+comes_round p row = pointwise nat_eq (power p.stage row (parts_of p)) (rounds p.stage)
 
--- the numbers of the telling rows of the lead at a place, where some may stand twice
+-- the numbers of the representative rows of the lead at a place, where some may stand twice
 abbrev pub numbers_of : NumberParts → ℕ → List ℕ
 numbers_of t place = take t.width (drop (place * t.width) t.numbers)
 
@@ -81,21 +81,21 @@ pub record StartsHead (t : NumberParts) (base : ℕ) : Type 0 where
   pub row : List ℕ
   pub is : IsBase t row base
 
--- a record of a step that is rung from a head, at a place: where the records of the head that it leads to start, whether that comes home, the length below which it may live, its number of changes, and the numbers of the telling rows that stand in it
+-- a record of a step that is rung from a head, at a place: where the records of the head that it leads to start, whether that comes round, the length below which it may live, its number of changes, and the numbers of the representative rows that stand in it
 pub record IsRecord (p : ProblemParts) (t : NumberParts) (head : List ℕ) (step place : ℕ) (lead : LeadRecord) : Type 0 where
   pub next : IsBase t (head_after p head step) lead.next
-  pub home : lead.home ≡ comes_home p (head_after p head step)
+  pub round : lead.round ≡ comes_round p (head_after p head step)
   pub limit : (rung : ℕ) → nat_lt rung lead.limit ≡ not (dies_after p head step rung)
   pub long : lead.length ≡ lead_length p step
   pub are : (number : ℕ) → number < length t.rows → list_any (nat_eq number) (numbers_of t place) ≡ is_listed (lead_from p head step) (get_or t.rows number [])
 
--- of some rows the telling ones are enough: a lead has one of them exactly where one of its telling rows is one of them
+-- of some rows the representative ones are enough: a lead has one of them exactly where one of its representative rows is one of them
 abbrev pub IsTold : ProblemParts → NumberParts → List (List ℕ) → Type 0
 IsTold p t rows = (head step : ℕ) → head < length t.heads → step < t.steps
     → list_any (is_listed rows) (lead_from p (get_or t.heads head []) step)
     ≡ list_any (is_listed rows) (map (λ number. get_or t.rows number []) (numbers_of t (head * t.steps + step)))
 
--- they are numbers of a problem: rounds is the first head and the first row, and two leads have a row in common exactly where they have a telling row in common
+-- they are numbers of a problem: rounds is the first head and the first row, and two leads have a row in common exactly where they have a representative row in common
 pub record IsNumbered (p : ProblemParts) (t : NumberParts) : Type 0 where
   pub counted : t.steps ≡ length p.leads
   pub some_head : 0 < length t.heads

@@ -5,7 +5,7 @@ use Rattle.cr_model.specs.Problems.{ProblemParts}
 use Rattle.cr_model.specs.Callings.{lead_length}
 use Rattle.cr_rowset.specs.Stacks.{AllDiffer}
 use Rattle.cr_path.specs.Numbers.{lead_from, head_after, dies_after}
-use Rattle.cr_path.specs.declared.numbering.RungLead.{RungLead}
+use Rattle.cr_path.specs.declared.numbers.rung_leads.RungLead.{RungLead}
 
 -- the number of steps; the heads and the rows, each at its number; a record of each lead, of the first head's steps first; and the numbers of the rows of all leads
 pub record RungParts : Type 0 where

@@ -1,16 +1,10 @@
--- Sets of steps, a bit for each.
-use Rattle.std.specs.Prelude.{◌≡◌, ℕ, ◌<◌, ◌≤◌, true, false, not, List, length}
+-- The steps by which the children of a node are not cut.
+use Rattle.std.specs.Prelude.{◌≡◌, ℕ, ◌<◌, ◌≤◌, false, not, List, length}
 use Rattle.cr_model.specs.Problems.{ProblemParts}
 use Rattle.cr_model.specs.Dead.{is_turned_back}
 use Rattle.cr_model.specs.Sizes.{most_rows, child}
 use Rattle.cr_query.specs.Sets.{has_step}
 use Rattle.cr_path.specs.Living.{is_cut}
-
--- the step is the least one of the set
-pub record IsLeast (set step : ℕ) : Type 0 where
-  pub few : step < 32
-  pub is : has_step set step ≡ true
-  pub before : (other : ℕ) → other < step → has_step set other ≡ false
 
 -- the set has the steps from one on by which the children of a node are not cut, and no others
 pub record AreUncut (p : ProblemParts) (node : List ℕ) (next set : ℕ) : Type 0 where

@@ -11,7 +11,7 @@ use Rattle.cr_path.specs.Numbers.{NumberParts, IsNumbered}
 use Rattle.cr_path.specs.Ends.{EndsParts, HasEnds}
 use Rattle.cr_path.specs.Marks.{HasMarks}
 use Rattle.cr_path.specs.Counted.{IsCounted}
-use Rattle.cr_path.specs.declared.counting.Counting.{Counting}
+use Rattle.cr_path.specs.declared.walks.node_counts.Counting.{Counting}
 
 -- the problem, the node, and the step from which on the node's children are not tried yet
 pub record WalkParts : Type 0 where

@@ -3,17 +3,17 @@
 ghost use Rattle.std.specs.Prelude.{◌≡◌, true, false, [], ◌∷◌, map};
 ghost use Rattle.cr_row.specs.Rows.{rounds};
 ghost use Rattle.cr_model.specs.Examples.{minimus, faulty, asks};
-ghost use Rattle.cr_path.specs.Numbers.{lead_from, brings_home, dies_after, IsTold, IsNumbered};
+ghost use Rattle.cr_path.specs.Numbers.{lead_from, brings_round, dies_after, IsTold, IsNumbered};
 ghost use Rattle.cr_path.specs.Examples.{minimus_numbers, minimus_asked, called, called_numbers};
 
-use cr_model::laws::{levels_list_rows, no_fewer_leads_lead_home, the_depth_is_greatest};
+use cr_model::laws::{levels_list_rows, no_fewer_leads_lead_to_rounds, the_depth_is_greatest};
 
-/// The heads, the telling rows and the records of Plain Bob Minimus, each limit with the way home.
+/// The heads, the representative rows and the records of Plain Bob Minimus, each limit with the way to rounds.
 pub fn plain_bob_minimus_has_its_numbers()
     ensures { IsNumbered minimus minimus_numbers }
 {
     levels_list_rows();
-    no_fewer_leads_lead_home();
+    no_fewer_leads_lead_to_rounds();
     the_depth_is_greatest();
 }
 
@@ -28,13 +28,13 @@ pub fn a_row_in_common_is_told()
 /// change a lead with a row twice is dead too.
 pub fn leads_die_at_the_edges()
     ensures long { map (dies_after (minimus_asked (asks 1 24 2)) (1 ∷ 3 ∷ 4 ∷ 2 ∷ []) 0) (4 ∷ 5 ∷ []) ≡ false ∷ true ∷ [] }
-    ensures home_last { map (λ parts. brings_home (minimus_asked (asks 1 24 parts)) (lead_from minimus (1 ∷ 4 ∷ 2 ∷ 3 ∷ []) 0)) (1 ∷ 2 ∷ [])
+    ensures round_last { map (λ parts. brings_round (minimus_asked (asks 1 24 parts)) (lead_from minimus (1 ∷ 4 ∷ 2 ∷ 3 ∷ []) 0)) (1 ∷ 2 ∷ [])
         ≡ false ∷ true ∷ [] }
-    ensures home_before { brings_home (faulty (asks 1 24 1)) (lead_from (faulty (asks 1 24 1)) (rounds 4) 1) ≡ true }
-    ensures away { brings_home (faulty (asks 1 24 1)) (lead_from (faulty (asks 1 24 1)) (1 ∷ 3 ∷ 4 ∷ 2 ∷ []) 1) ≡ false }
+    ensures round_before { brings_round (faulty (asks 1 24 1)) (lead_from (faulty (asks 1 24 1)) (rounds 4) 1) ≡ true }
+    ensures away { brings_round (faulty (asks 1 24 1)) (lead_from (faulty (asks 1 24 1)) (1 ∷ 3 ∷ 4 ∷ 2 ∷ []) 1) ≡ false }
     ensures twice { dies_after (faulty (asks 1 24 1)) (1 ∷ 3 ∷ 4 ∷ 2 ∷ []) 2 0 ≡ true }
 {
     levels_list_rows();
-    no_fewer_leads_lead_home();
+    no_fewer_leads_lead_to_rounds();
     the_depth_is_greatest();
 }

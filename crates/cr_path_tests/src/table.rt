@@ -161,9 +161,9 @@ fn width(alloc: Global, draft: &Draft, most_heads: u64) -> Result<Option<usize>,
 type Wanted = (&'static str, Draft, u64, Option<usize>);
 
 // Each problem has a table in as many heads as its leads reach, and none in one less. In Minimus each row stands in one
-// lead, which has one telling row, and the least width is 2. In Doubles and Minor the rows of a lead but its last two
+// lead, which has one representative row, and the least width is 2. In Doubles and Minor the rows of a lead but its last two
 // stand in the same leads, those that are rung from its head and from its last row but one, and each of the last two in
-// leads that have no other row in common: a lead has three telling rows. Of the leads of four changes no row stands in
+// leads that have no other row in common: a lead has three representative rows. Of the leads of four changes no row stands in
 // all leads in which another of its lead does, so that each has four.
 const TABLES: &[Wanted] = &[
     ("Minimus", MINIMUS, 3, Some(2)),

@@ -147,7 +147,7 @@ fn walk_of<'a>(
     requires numbers { IsNumbered problem.now numbers.now }
     ensures { IfOk result (λ walk. walk.problem ≡ problem.now) }
 {
-    // Leads of Plain Bob Doubles have three telling rows.
+    // Leads of Plain Bob Doubles have three representative rows.
     if numbers.width() != 3 {
         return Err(Fail::from("the width is another"));
     }
@@ -254,7 +254,7 @@ enum Asked<'a> {
     RowsTwice,
     // Whether it goes down by the live steps: 1 where it does.
     LiveSteps,
-    // Whether a node comes home: 1 where it does.
+    // Whether a node comes round: 1 where it does.
     Home(&'a [u8]),
 }
 
@@ -274,7 +274,7 @@ fn answer_of(alloc: Global, problem: &Problem, leads: &LeadTable, asked: Asked) 
         Asked::LiveNodes => live_nodes(alloc, problem, leads, &numbers, &mut walk),
         Asked::RowsTwice => Ok(u64::from(goes_to_all(alloc, problem, leads, &mut walk)?)),
         Asked::LiveSteps => Ok(u64::from(goes_down_from_all(alloc, problem, leads, &mut walk)?)),
-        Asked::Home(node) => Ok(u64::from(comes_home(alloc, problem, leads, &mut walk, node)?)),
+        Asked::Home(node) => Ok(u64::from(comes_round(alloc, problem, leads, &mut walk, node)?)),
     }
 }
 
@@ -374,7 +374,7 @@ fn nodes_with_rows_twice(rt: HostRuntime) -> Result<(), Fail> {
     Ok(())
 }
 
-// Of nodes that are gone to, one after another, the live steps. The node of four plain leads has come home; after a bob, a
+// Of nodes that are gone to, one after another, the live steps. The node of four plain leads has come round; after a bob, a
 // plain lead turns back.
 const LIVE_STEPS: &[(&[u8], &[u8])] = &[
     (&[0, 0, 0], &[0, 1]),
@@ -418,7 +418,7 @@ fn live_steps_of_nodes(rt: HostRuntime) -> Result<(), Fail> {
     Ok(())
 }
 
-// Whether nodes come home, as often as there are parts. The head of a plain lead, 13524, turns four bells round; that of a
+// Whether nodes come round, as often as there are parts. The head of a plain lead, 13524, turns four bells round; that of a
 // bob, 12354, swaps two; that of both, 13542, turns three round.
 const HOMES: &[(&str, Draft, &[u8], bool)] = &[
     ("four plain leads", DOUBLES, &[0, 0, 0, 0], true),
@@ -430,8 +430,8 @@ const HOMES: &[(&str, Draft, &[u8], bool)] = &[
     ("three times a bob", THREE_PARTS, &[1], false),
 ];
 
-// Whether the node to which a walk goes comes home.
-fn comes_home(
+// Whether the node to which a walk goes comes round.
+fn comes_round(
     alloc: Global,
     problem: &Problem,
     leads: &LeadTable,
@@ -443,13 +443,13 @@ fn comes_home(
     if !goes_to(alloc, problem, leads, walk, node)? {
         return Err(Fail::from("the walk is elsewhere"));
     }
-    Ok(walk.comes_home())
+    Ok(walk.comes_round())
 }
 
 #[test]
-fn nodes_come_home(rt: HostRuntime) -> Result<(), Fail> {
-    for &(name, draft, node, home) in HOMES {
-        if answer(rt.alloc(), &draft, Asked::Home(node))? != u64::from(home) {
+fn nodes_come_round(rt: HostRuntime) -> Result<(), Fail> {
+    for &(name, draft, node, round) in HOMES {
+        if answer(rt.alloc(), &draft, Asked::Home(node))? != u64::from(round) {
             return Err(Fail::from(name));
         }
     }

@@ -63,18 +63,18 @@ module _ (p : ProblemParts) (step : ℕ) (inside : step < length p.leads) where
       ∙ sym (get_or-map (product head) rows twice.second [] [] twice.within))
 
   -- rounds stands where the inverse of the head stands in the lead
-  home_inside : (head inverse : List ℕ) (place : ℕ) → IsRowOf p.stage head → IsInverse head inverse → StandsAt (lead_rows (lead_table p) step) inverse place →
+  round_inside : (head inverse : List ℕ) (place : ℕ) → IsRowOf p.stage head → IsInverse head inverse → StandsAt (lead_rows (lead_table p) step) inverse place →
       StandsAt (rows_from head (changes_of p step)) (rounds p.stage) place
-  home_inside head inverse place is undoes at =
+  round_inside head inverse place is undoes at =
       let rows = lead_rows (lead_table p) step in
       subst (λ rs. StandsAt rs (rounds p.stage) place) (sym (lead_moved head is.long)) (record {
         within = omega (arith, at.within, length-map rows (product head));
         is = get_or-map (product head) rows place [] [] at.within ∙ ap (product head) at.is ∙ undoes.right ∙ ap rounds is.long;
       })
 
-  no_home_inside : (head inverse : List ℕ) → IsRowOf p.stage head → IsInverse head inverse → (Contains (lead_rows (lead_table p) step) inverse → ⊥) →
+  no_round_inside : (head inverse : List ℕ) → IsRowOf p.stage head → IsInverse head inverse → (Contains (lead_rows (lead_table p) step) inverse → ⊥) →
       Contains (rows_from head (changes_of p step)) (rounds p.stage) → ⊥
-  no_home_inside head inverse is undoes away held =
+  no_round_inside head inverse is undoes away held =
       let rows = lead_rows (lead_table p) step in
       let (k, low, at) = subst (λ rs. Contains rs (rounds p.stage)) (lead_moved head is.long) held in
       let under : k < length rows = omega (arith, low, length-map rows (product head)) in
@@ -115,38 +115,38 @@ module _ (p : ProblemParts) (leads : List ℕ) (step : ℕ) (from : List ℕ) (i
   shared_again old differ = old (new_from_differ (rows_of p leads) (rows_from from (changes_of p step)) (subst AllDiffer moved differ))
 
   -- rounds stands where it stood
-  pub home_stays : (place : ℕ) → StandsAt (rows_of p leads) (rounds p.stage) place → StandsAt (rows_of p (child leads step)) (rounds p.stage) place
-  home_stays place at =
+  pub round_stays : (place : ℕ) → StandsAt (rows_of p leads) (rounds p.stage) place → StandsAt (rows_of p (child leads step)) (rounds p.stage) place
+  round_stays place at =
       subst (λ rows. StandsAt rows (rounds p.stage) place) (sym moved) (record {
         within = omega (arith, at.within, length-append (rows_of p leads) (rows_from from (changes_of p step)));
         is = get_or_append_left (rows_of p leads) (rows_from from (changes_of p step)) [] place at.within ∙ at.is;
       })
 
   -- or it comes in the lead, or stands nowhere
-  home_comes : (inverse : List ℕ) (rung place : ℕ) → IsInverse from inverse → rung ≡ length_of p leads → rung ≤ place →
+  round_comes : (inverse : List ℕ) (rung place : ℕ) → IsInverse from inverse → rung ≡ length_of p leads → rung ≤ place →
       StandsAt (lead_rows (lead_table p) step) inverse (place - rung) → StandsAt (rows_of p (child leads step)) (rounds p.stage) place
-  home_comes inverse rung place undoes counted high at =
+  round_comes inverse rung place undoes counted high at =
       let more = rows_from from (changes_of p step) in
-      let here = home_inside p step inside from inverse (place - rung) from_row undoes at in
+      let here = round_inside p step inside from inverse (place - rung) from_row undoes at in
       let sum : length (rows_of p leads) + (place - rung) ≡ place = omega (arith, counted, high, rows_counted p leads) in
       subst (λ rows. StandsAt rows (rounds p.stage) place) (sym moved) (record {
         within = omega (arith, here.within, sum, length-append (rows_of p leads) more);
         is = ap (λ k. get_or (rows_of p leads ++ more) k []) (sym sum) ∙ get_or-append-add (rows_of p leads) more (place - rung) [] ∙ here.is;
       })
 
-  home_nowhere : (inverse : List ℕ) → IsInverse from inverse → (Contains (rows_of p leads) (rounds p.stage) → ⊥) →
+  round_nowhere : (inverse : List ℕ) → IsInverse from inverse → (Contains (rows_of p leads) (rounds p.stage) → ⊥) →
       (Contains (lead_rows (lead_table p) step) inverse → ⊥) → Contains (rows_of p (child leads step)) (rounds p.stage) → ⊥
-  home_nowhere inverse undoes before away held =
+  round_nowhere inverse undoes before away held =
       elim (Contains-append_cases (rows_of p leads) (rows_from from (changes_of p step)) (rounds p.stage) (subst (λ rows. Contains rows (rounds p.stage)) moved held)) [
         | inl here ↦ before here
-        | inr there ↦ no_home_inside p step inside from inverse from_row undoes away there
+        | inr there ↦ no_round_inside p step inside from inverse from_row undoes away there
       ]
 
-  pub home_found : (inverse : List ℕ) (rung : ℕ) (result : Option ℕ) → IsInverse from inverse → rung ≡ length_of p leads → (Contains (rows_of p leads) (rounds p.stage) → ⊥) →
+  pub round_found : (inverse : List ℕ) (rung : ℕ) (result : Option ℕ) → IsInverse from inverse → rung ≡ length_of p leads → (Contains (rows_of p leads) (rounds p.stage) → ⊥) →
       IfSome result (λ place. (rung ≤ place) × StandsAt (lead_rows (lead_table p) step) inverse (place - rung)) →
       (IsNone result → Contains (lead_rows (lead_table p) step) inverse → ⊥) → IsFound (rows_of p (child leads step)) (rounds p.stage) result
-  home_found inverse rung (Some place) undoes counted before some none = home_comes inverse rung place undoes counted some.0 some.1
-  home_found inverse rung None undoes counted before some none = home_nowhere inverse undoes before (none refl)
+  round_found inverse rung (Some place) undoes counted before some none = round_comes inverse rung place undoes counted some.0 some.1
+  round_found inverse rung None undoes counted before some none = round_nowhere inverse undoes before (none refl)
 
 -- the leads one after another, and rows that may share some of theirs
 module _ (p : ProblemParts) (leads : List ℕ) (more : List (List ℕ)) (index step : ℕ) (inside : index < length leads) (at : step ≡ get_or leads index 0) where
@@ -177,7 +177,7 @@ module _ (p : ProblemParts) (leads : List ℕ) (more : List (List ℕ)) (index s
 
 -- a lead more
 pub heads_more : (p : ProblemParts) (leads : TableParts) (table : FalseParts) (earlier : List Earlier) (lead : Earlier) → AreHeads p leads table earlier → lead.step < length p.leads →
-    IsInverse (head_of p (steps_of earlier)) lead.inverse → IsFound (rows_of p (child (steps_of earlier) lead.step)) (rounds p.stage) lead.home →
+    IsInverse (head_of p (steps_of earlier)) lead.inverse → IsFound (rows_of p (child (steps_of earlier) lead.step)) (rounds p.stage) lead.round →
     AreHeads p leads table (earlier ++ lead ∷ [])
 heads_more p leads table earlier lead are known undoes found =
     let steps = steps_of earlier in
@@ -199,16 +199,16 @@ heads_more p leads table earlier lead are known undoes found =
             (sym (ap (take i) grown ∙ child_before steps lead.step i (omega (arith, under, counted))))
             (subst (λ (e : Earlier). IsInverse (head_of p (take i steps)) e.inverse) (sym (get_or_append_left earlier (lead ∷ []) d i under)) (are.inverses i d under))
       ];
-      homes = λ i d low. elim (cases_eq i (length earlier)) [
+      round_heads = λ i d low. elim (cases_eq i (length earlier)) [
         | inl last ↦
-            subst (λ calling. IsFound (rows_of p calling) (rounds p.stage) (get_or (earlier ++ lead ∷ []) i d).home)
+            subst (λ calling. IsFound (rows_of p calling) (rounds p.stage) (get_or (earlier ++ lead ∷ []) i d).round)
             (sym (ap (take (i + 1)) grown ∙ take_all (i + 1) (child steps lead.step) (omega (arith, last, counted, length-append steps (lead.step ∷ [])))))
-            (subst (λ (e : Earlier). IsFound (rows_of p (child steps lead.step)) (rounds p.stage) e.home) (sym (get_or_push earlier lead d i (sym last))) found)
+            (subst (λ (e : Earlier). IsFound (rows_of p (child steps lead.step)) (rounds p.stage) e.round) (sym (get_or_push earlier lead d i (sym last))) found)
         | inr before ↦
             let under : i < length earlier = omega (arith, low, long, before) in
-            subst (λ calling. IsFound (rows_of p calling) (rounds p.stage) (get_or (earlier ++ lead ∷ []) i d).home)
+            subst (λ calling. IsFound (rows_of p calling) (rounds p.stage) (get_or (earlier ++ lead ∷ []) i d).round)
             (sym (ap (take (i + 1)) grown ∙ child_before steps lead.step (i + 1) (omega (arith, under, counted))))
-            (subst (λ (e : Earlier). IsFound (rows_of p (take (i + 1) steps)) (rounds p.stage) e.home) (sym (get_or_append_left earlier (lead ∷ []) d i under)) (are.homes i d under))
+            (subst (λ (e : Earlier). IsFound (rows_of p (take (i + 1) steps)) (rounds p.stage) e.round) (sym (get_or_append_left earlier (lead ∷ []) d i under)) (are.round_heads i d under))
       ];
     }
 
@@ -227,10 +227,10 @@ heads_less p leads table earlier left are few =
           let under : i < left = omega (arith, low, counted) in
           subst (λ calling. IsInverse (head_of p calling) (get_or (take left earlier) i d).inverse) (sym (ap (take i) cut ∙ take-take i left steps (omega (arith, under))))
           (subst (λ (e : Earlier). IsInverse (head_of p (take i steps)) e.inverse) (sym (get_or-take left earlier i d under)) (are.inverses i d (omega (arith, under, few))));
-      homes = λ i d low.
+      round_heads = λ i d low.
           let under : i < left = omega (arith, low, counted) in
-          subst (λ calling. IsFound (rows_of p calling) (rounds p.stage) (get_or (take left earlier) i d).home) (sym (ap (take (i + 1)) cut ∙ take-take (i + 1) left steps (omega (arith, under))))
-          (subst (λ (e : Earlier). IsFound (rows_of p (take (i + 1) steps)) (rounds p.stage) e.home) (sym (get_or-take left earlier i d under)) (are.homes i d (omega (arith, under, few))));
+          subst (λ calling. IsFound (rows_of p calling) (rounds p.stage) (get_or (take left earlier) i d).round) (sym (ap (take (i + 1)) cut ∙ take-take (i + 1) left steps (omega (arith, under))))
+          (subst (λ (e : Earlier). IsFound (rows_of p (take (i + 1) steps)) (rounds p.stage) e.round) (sym (get_or-take left earlier i d under)) (are.round_heads i d (omega (arith, under, few))));
     }
 
 -- what is known of the lead at an index
@@ -239,7 +239,7 @@ pub record IsKnown (p : ProblemParts) (table : FalseParts) (leads : List ℕ) (i
   pub at : lead.step ≡ get_or leads index 0
   pub known : lead.step < length table.twice
   pub undoes : IsInverse (head_of p (take index leads)) lead.inverse
-  pub home : IsFound (rows_of p (take (index + 1) leads)) (rounds p.stage) lead.home
+  pub round : IsFound (rows_of p (take (index + 1) leads)) (rounds p.stage) lead.round
 
 pub known_at : (p : ProblemParts) (leads : TableParts) (table : FalseParts) (earlier : List Earlier) (index : ℕ) (lead : Earlier) → AreHeads p leads table earlier → index < length earlier →
     lead ≡ get_or earlier index lead → IsKnown p table (steps_of earlier) index lead
@@ -253,7 +253,7 @@ known_at p leads table earlier index lead are low is =
       at = at;
       known = omega (arith, at, step, known_steps p table are.table_is);
       undoes = subst (λ (e : Earlier). IsInverse (head_of p (take index (steps_of earlier))) e.inverse) (sym is) (are.inverses index lead low);
-      home = subst (λ (e : Earlier). IsFound (rows_of p (take (index + 1) (steps_of earlier))) (rounds p.stage) e.home) (sym is) (are.homes index lead low);
+      round = subst (λ (e : Earlier). IsFound (rows_of p (take (index + 1) (steps_of earlier))) (rounds p.stage) e.round) (sym is) (are.round_heads index lead low);
     }
 
 -- its step, as a lead of a table's

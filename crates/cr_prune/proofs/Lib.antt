@@ -3,7 +3,7 @@ pub mod Leads
 pub mod Limits
 pub mod Twice
 pub mod Past
-pub mod Homes
+pub mod ComingRound
 pub mod Multiplied
 pub mod Clashes
 pub mod Holding

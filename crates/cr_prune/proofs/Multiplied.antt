@@ -148,23 +148,23 @@ module _ (p : ProblemParts) (node : List ℕ) where
         | inr before ↦ each_new number (all_front (λ row. Contains (rows_of p node) row → ⊥) (further number) (part_after (number + 1)) joined) i low (omega (arith, before))
       ]
 
-  -- where as many parts as two numbers say come home, the part after the one number brings new rows where that after the other does
+  -- where as many parts as two numbers say come round, the part after the one number brings new rows where that after the other does
   mirrored : (i j : ℕ) → head_after (i + j) ≡ rounds p.stage → AreNew (rows_of p node) (part_after i) → AreNew (rows_of p node) (part_after j)
-  mirrored i j home new = λ k d inside held.
+  mirrored i j round new = λ k d inside held.
       let rows = rows_of p node in
       let low : k < length rows = omega (arith, inside, part_long j) in
       let (m, under, is) = held in
       let far : get_or rows m [] ≡ product (head_after j) (get_or rows k []) =
       get_or_default rows m [] _ under ∙ is ∙ get_or_default (part_after j) k d [] inside ∙ part_at j k low in
       let undoes : product (head_after i) (head_after j) ≡ rounds p.stage =
-      sym (head_joined row_laws p (repeated i node) (repeated j node)) ∙ ap (head_of p) (sym (repeated_joined i j node)) ∙ home in
+      sym (head_joined row_laws p (repeated i node) (repeated j node)) ∙ ap (head_of p) (sym (repeated_joined i j node)) ∙ round in
       let back : get_or (part_after i) m [] ≡ get_or rows k [] =
       part_at i m under ∙ ap (product (head_after i)) far
       ∙ undone row_laws p.stage (head_after i) (head_after j) (get_or rows k []) (last_is_row row_laws p.stage (changes_of_all p (repeated j node))) undoes (rows_are_rows row_laws p.stage (changes_of_all p node) k [] low) in
       new m [] (omega (arith, under, part_long i)) (subst (Contains rows) (sym back) (k, low, get_or_default rows k _ [] low))
 
   -- so the first half of them tells of all
-  module _ (number half : ℕ) (home : head_after (number + 1) ≡ rounds p.stage) (within : half ≤ number) (enough : number ≤ 2 * half) where
+  module _ (number half : ℕ) (round : head_after (number + 1) ≡ rounds p.stage) (within : half ≤ number) (enough : number ≤ 2 * half) where
     half_is_new : AreNew (rows_of p node) (further number) → AreNew (rows_of p node) (further half)
     half_is_new new = all_new half (λ i low high. each_new number new i low (omega (arith, high, within)))
 
@@ -173,7 +173,7 @@ module _ (p : ProblemParts) (node : List ℕ) where
       | inr near ↦ each_new half new i low (omega (arith, near))
       | inl far ↦
           let other : number + 1 - i + i ≡ number + 1 = omega (arith, high) in
-          mirrored (number + 1 - i) i (ap head_after other ∙ home) (each_new half new (number + 1 - i) (omega (arith, high)) (omega (arith, far, enough)))
+          mirrored (number + 1 - i) i (ap head_after other ∙ round) (each_new half new (number + 1 - i) (omega (arith, high)) (omega (arith, far, enough)))
     ])
 
     half_told : (b : Bool) → (IsTrue b ↔ AreNew (rows_of p node) (further half)) → IsTrue b ↔ AreNew (rows_of p node) (further number)
@@ -183,15 +183,15 @@ module _ (p : ProblemParts) (node : List ℕ) where
   pub touch_told : (fresh : ℕ) (head : List ℕ) (steps : List ℕ) (half : ℕ) (b : Bool) → AreFresh p node fresh → rows_differ (rows_of p node) ≡ true →
       head_of p (touch_of p node) ≡ rounds p.stage → head ≡ head_of p node → steps ≡ node → half < parts_of p → parts_of p ≤ 2 * half + 1 →
       (IsTrue b ↔ AreNew (rows_of p (take fresh steps)) (rows_from head (changes_of_all p (repeated half steps)))) → b ≡ rows_differ (rows_of p (touch_of p node))
-  touch_told fresh head steps half b are differ home head_is steps_are within enough told =
+  touch_told fresh head steps half b are differ round head_is steps_are within enough told =
       let differ' : AllDiffer (rows_of p node) = (rows_differ_decided (rows_of p node)).0 differ in
       let told' : IsTrue b ↔ AreNew (rows_of p node) (further half) =
       subst (λ (leads : List ℕ). IsTrue b ↔ AreNew (rows_of p leads) (further half)) (all_fresh p node fresh are differ')
       (subst (λ row. IsTrue b ↔ AreNew (rows_of p (take fresh node)) (rows_from row (changes_of_all p (repeated half node)))) head_is
       (subst (λ word. IsTrue b ↔ AreNew (rows_of p (take fresh word)) (rows_from head (changes_of_all p (repeated half word)))) steps_are told)) in
       let all : parts_of p - 1 + 1 ≡ parts_of p = omega (arith, within) in
-      let home' : head_after (parts_of p - 1 + 1) ≡ rounds p.stage = ap head_after all ∙ home in
+      let round' : head_after (parts_of p - 1 + 1) ≡ rounds p.stage = ap head_after all ∙ round in
       same_from_decides b (rows_differ (rows_of p (touch_of p node)))
       (subst (λ n. IsTrue b ↔ AllDiffer (rows_of p (repeated n node))) all
-      (parts_told (parts_of p - 1) b differ' (half_told (parts_of p - 1) half home' (omega (arith, within)) (omega (arith, enough)) b told')))
+      (parts_told (parts_of p - 1) b differ' (half_told (parts_of p - 1) half round' (omega (arith, within)) (omega (arith, enough)) b told')))
       (rows_differ_decided (rows_of p (touch_of p node)))

@@ -4,13 +4,13 @@ use Rattle.std.specs.Prelude.{IfSome}
 use Rattle.std.specs.Bool.{Decides}
 use Rattle.std.proofs.lemmas.Bool.{false_from_ne_true, false≢true, or_parts}
 use Rattle.std.proofs.lemmas.Bool.Decides.{same_from_decides}
-use Rattle.cr_model.specs.Turning.{TurnsBack}
+use Rattle.cr_model.specs.LeastRotations.{TurnsBack}
 use Rattle.cr_model.proofs.TurnedBack.{turns_back_decided}
 use Rattle.cr_model.specs.declared.reason.Reason.{Reason}
 use Rattle.cr_model.specs.declared.reason.Reason.TheVariants as reason
 use Rattle.cr_model.specs.Problems.{ProblemParts}
 use Rattle.cr_model.specs.Sound.{IsSound}
-use Rattle.cr_model.specs.Dead.{HasNoneBelow, is_long, is_self_false, is_again, is_home, is_far, is_too_many, is_too_few, turns_back, turn_free, is_turned_back, holds, dead}
+use Rattle.cr_model.specs.Dead.{HasNoneBelow, is_long, is_self_false, is_again, is_round, is_far, is_too_many, is_too_few, turns_back, turn_free, is_turned_back, holds, dead}
 use Rattle.cr_query.specs.declared.meter.Hopeless.{Hopeless}
 use Rattle.cr_query.specs.declared.meter.Hopeless.TheVariants.{TooMany, TooFew}
 use Rattle.cr_query.specs.Meters.{is_hopeless_by_leads}
@@ -43,12 +43,12 @@ by_query = reason.Far ∷ reason.TooMany ∷ reason.TooFew ∷ reason.TurnsBack 
 
 -- the first reason, told by the test of each
 abbrev first_of : Bool → Bool → Bool → Bool → Bool → Bool → Bool → Bool → Option Reason
-first_of long self_false again home far many few turned =
-    cond long (Some reason.Long) (cond self_false (Some reason.SelfFalse) (cond again (Some reason.Again) (cond home (Some reason.Home)
+first_of long self_false again round far many few turned =
+    cond long (Some reason.Long) (cond self_false (Some reason.SelfFalse) (cond again (Some reason.Again) (cond round (Some reason.Home)
     (cond far (Some reason.Far) (cond many (Some reason.TooMany) (cond few (Some reason.TooFew) (cond turned (Some reason.TurnsBack) None)))))))
 
-rest_tells : (again home many few : Bool) → ((again || home) || (many || few)) ≡ is_some (first_of false false again home false many few false)
-rest_tells true home many few = refl
+rest_tells : (again round many few : Bool) → ((again || round) || (many || few)) ≡ is_some (first_of false false again round false many few false)
+rest_tells true round many few = refl
 rest_tells false true many few = refl
 rest_tells false false true few = refl
 rest_tells false false false true = refl
@@ -82,7 +82,7 @@ module _ (p : ProblemParts) (most : ℕ) (node : List ℕ) where
       (ap₂ (λ a b. a || b) (none reason.TurnsBack) (none reason.Far))))
 
   -- where it does not die unrung, the rows and the patterns tell whether it is dead
-  pub dead_by_rest : (rows hopeless : Bool) → dies_unrung p most node ≡ false → rows ≡ (is_again p node || is_home p node) → hopeless ≡ (is_too_many p node || is_too_few p node)
+  pub dead_by_rest : (rows hopeless : Bool) → dies_unrung p most node ≡ false → rows ≡ (is_again p node || is_round p node) → hopeless ≡ (is_too_many p node || is_too_few p node)
       → (rows || hopeless) ≡ is_some (dead p most node)
   unfolding dead
   dead_by_rest rows hopeless lives by_rows by_counts =
@@ -91,8 +91,8 @@ module _ (p : ProblemParts) (most : ℕ) (node : List ℕ) where
       let (leads, third) = or_parts (is_hopeless_by_leads p node) (is_turned_back p node || is_far p most node) second in
       let (turned, far) = or_parts (is_turned_back p node) (is_far p most node) third in
       ap₂ (λ a b. a || b) by_rows by_counts
-      ∙ rest_tells (is_again p node) (is_home p node) (is_too_many p node) (is_too_few p node)
-      ∙ (λ i. is_some (first_of (sym long i) (sym self_false i) (is_again p node) (is_home p node) (sym far i) (is_too_many p node) (is_too_few p node) (sym turned i)))
+      ∙ rest_tells (is_again p node) (is_round p node) (is_too_many p node) (is_too_few p node)
+      ∙ (λ i. is_some (first_of (sym long i) (sym self_false i) (is_again p node) (is_round p node) (sym far i) (is_too_many p node) (is_too_few p node) (sym turned i)))
 
 -- a hopeless node, told by its reason
 pub hopeless_told : (why : Option Hopeless) (many few : Bool) → (why ≡ Some TooMany) ↔ (many ≡ true) → (why ≡ Some TooFew) ↔ ((many ≡ false) × (few ≡ true)) → is_some why ≡ (many || few)

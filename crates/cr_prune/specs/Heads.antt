@@ -30,4 +30,4 @@ pub record AreHeads (p : ProblemParts) (leads : TableParts) (table : FalseParts)
   pub table_is : IsFalseTable (lead_table p) table
   pub steps : HasSteps p (steps_of earlier)
   pub inverses : (i : ℕ) (d : Earlier) → i < length earlier → IsInverse (head_of p (take i (steps_of earlier))) (get_or earlier i d).inverse
-  pub homes : (i : ℕ) (d : Earlier) → i < length earlier → IsFound (rows_of p (take (i + 1) (steps_of earlier))) (rounds p.stage) (get_or earlier i d).home
+  pub round_heads : (i : ℕ) (d : Earlier) → i < length earlier → IsFound (rows_of p (take (i + 1) (steps_of earlier))) (rounds p.stage) (get_or earlier i d).round

@@ -4,5 +4,5 @@ pub mod Heads
 pub mod Holding
 pub mod Parts
 pub mod Walks
-pub mod Facts
+pub mod PruneLimits
 pub mod Pruners

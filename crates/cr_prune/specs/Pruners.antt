@@ -14,7 +14,7 @@ abbrev pub pruner_from : ProblemParts → ReachParts → PrunerParts
 pruner_from p reach = record { problem = p; reach = reach }
 
 -- a reason to be dead holds of the node that needs no row of it but its head: it is too long, its last lead is false
--- in itself, home is too far, its leads are too many or too few, or it turns back
+-- in itself, rounds is too far, its leads are too many or too few, or it turns back
 abbrev pub dies_unrung : ProblemParts → ℕ → List ℕ → Bool
 dies_unrung p most node =
     is_long p node || (is_self_false p node || (is_hopeless_by_leads p node || (is_turned_back p node || is_far p most node)))

@@ -58,11 +58,11 @@ impl<'a> FirstLeads<'a> {
 
     /// Where rounds, which is this row, stands among the rows of these leads, counted from 0. None where it stands
     /// nowhere.
-    pub fn home(&self, row: &Row) -> Option<u64>
+    pub fn round(&self, row: &Row) -> Option<u64>
         ensures { (p : ProblemParts) (node : List ℕ) → row.now ≡ rounds p.stage → AreFirst p node self.now.held self.now.fresh
             → IsFound (rows_of p (take self.now.fresh node)) (rounds p.stage) result }
     {
-        self.held.home(row)
+        self.held.round(row)
     }
 
     /// Rings one more lead from the end of the node, and gives the end after it.

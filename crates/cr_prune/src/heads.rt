@@ -33,7 +33,7 @@ pub struct Earlier {
     // The inverse of the head from which it is rung.
     inverse: Row,
     // The place where rounds stands among the rows up to its end, counted from 0. None where it stands nowhere.
-    home: Option<u64>,
+    round: Option<u64>,
 }
 
 /// Leads of a problem, rung one after another from rounds, by their heads.
@@ -80,11 +80,11 @@ impl<'a> Heads<'a> {
     }
 
     /// Where rounds stands among the rows of the leads, counted from 0. None where it stands nowhere.
-    pub fn home(&self) -> Option<u64>
+    pub fn round(&self) -> Option<u64>
         ensures { IsFound (rows_of self.now.problem self.now.leads) (rounds self.now.problem.stage) result }
     {
         match self.earlier.last() {
-            Some(last) => last.home,
+            Some(last) => last.round,
             None => None,
         }
     }
@@ -153,34 +153,34 @@ impl<'a> Heads<'a> {
         ensures { self.new ≡ heads_from self.old.problem (child self.old.leads step) }
     {
         let inverse = inverse_of(&from.head);
-        let home = self.home_with(from, step, &inverse);
+        let round = self.round_with(from, step, &inverse);
         push(
             &mut self.earlier,
             Earlier {
                 step,
                 inverse,
-                home,
+                round,
             },
         );
     }
 
     // Where rounds stands among the rows of the leads and one more, which is rung from the end of the others. The row is
     // the inverse of the head there.
-    fn home_with(&self, from: LeadEnd, step: u8, inverse: &Row) -> Option<u64>
+    fn round_with(&self, from: LeadEnd, step: u8, inverse: &Row) -> Option<u64>
         requires from { from ≡ end_of self.now.problem self.now.leads }
         requires step { step < length self.now.problem.leads }
         requires short { from.rung ≤ 12000 }
         requires inverse { IsInverse from.head inverse.now }
         ensures { IsFound (rows_of self.now.problem (child self.now.leads step)) (rounds self.now.problem.stage) result }
     {
-        match self.home() {
+        match self.round() {
             Some(place) => Some(place),
-            None => self.home_in(step, inverse, from.rung),
+            None => self.round_in(step, inverse, from.rung),
         }
     }
 
     // The place of a row in a lead, counted on from a number. None where it stands nowhere there.
-    fn home_in(&self, step: u8, row: &Row, before: u64) -> Option<u64>
+    fn round_in(&self, step: u8, row: &Row, before: u64) -> Option<u64>
         requires step { step < length self.now.problem.leads }
         requires short { before ≤ 12000 }
         ensures some { IfSome result (λ place. (before ≤ place) × StandsAt (lead_rows (lead_table self.now.problem) step) row.now (place - before)) }

@@ -1,4 +1,4 @@
-//! What stands for the leads of a node.
+//! The leads of a node, kept as rows on a stack, or as heads beside a falseness table.
 
 ghost use Rattle.std.specs.Prelude.{◌≡◌, ◌+◌, ◌-◌, ◌<◌, ◌≤◌, ℕ, [], List, length, take, All, IfOk, IfSome};
 ghost use Rattle.cr_row.specs.Rows.{rounds};
@@ -61,13 +61,13 @@ impl<'a> Held<'a> {
 
     /// Where rounds, which is this row, stands among the rows of the leads, counted from 0. None where it stands
     /// nowhere.
-    pub fn home(&self, row: &Row) -> Option<u64>
+    pub fn round(&self, row: &Row) -> Option<u64>
         ensures { (p : ProblemParts) (leads : List ℕ) → row.now ≡ rounds p.stage → IsHeld p leads self.now
             → IsFound (rows_of p leads) (rounds p.stage) result }
     {
         match self {
             Held::Rows(stack) => stack.place_of(row),
-            Held::Heads(heads) => heads.home(),
+            Held::Heads(heads) => heads.round(),
         }
     }
 

@@ -6,14 +6,14 @@ ghost use Rattle.cr_model.specs.Callings.{shortest, length_of, rows_of};
 ghost use Rattle.cr_model.specs.Levels.{at_least};
 ghost use Rattle.cr_model.specs.Queries.{cap, part_cap};
 ghost use Rattle.cr_model.specs.Decided.{rows_differ};
-ghost use Rattle.cr_model.specs.Dead.{HasNoneBelow, is_again, is_home, is_too_many, is_too_few, is_self_false, is_far, is_turned_back, holds, dead};
+ghost use Rattle.cr_model.specs.Dead.{HasNoneBelow, is_again, is_round, is_too_many, is_too_few, is_self_false, is_far, is_turned_back, holds, dead};
 ghost use Rattle.cr_model.specs.Sizes.{child};
 ghost use Rattle.cr_leads.specs.Tables.{lead_table};
 ghost use Rattle.cr_reach.specs.Tables.{reach_table};
 ghost use Rattle.cr_query.specs.Meters.{is_hopeless_by_leads};
 ghost use Rattle.cr_prune.specs.Pruners.{dies_unrung};
 
-use crate::facts::Facts;
+use crate::prune_limits::PruneLimits;
 use crate::walk::{Walk, changes_of, head_after};
 use cr_leads::LeadTable;
 use cr_model::laws::nothing_is_kept_below_a_dead_node;
@@ -32,20 +32,20 @@ pub struct Pruner<'a> {
     problem: &'a Problem,
     leads: &'a LeadTable,
     reach: &'a ReachTable,
-    facts: Facts,
+    prune_limits: PruneLimits,
 }
 
 impl<'a> Model for Pruner<'a> {
     ghost use Rattle.std.specs.Prelude.{◌≡◌};
     ghost use Rattle.cr_leads.specs.Tables.{lead_table};
-    ghost use Rattle.cr_prune.specs.Facts.{AreFacts};
+    ghost use Rattle.cr_prune.specs.PruneLimits.{ArePruneLimits};
     ghost use Rattle.cr_prune.specs.Pruners.{PrunerParts, pruner_from};
 
     ghost Value = { PrunerParts };
 
     ghost view = { λ p. pruner_from p.problem.now p.reach.now };
 
-    ghost invariant = { λ p. (p.leads.now ≡ lead_table p.problem.now) × AreFacts p.problem.now p.facts };
+    ghost invariant = { λ p. (p.leads.now ≡ lead_table p.problem.now) × ArePruneLimits p.problem.now p.prune_limits };
 }
 
 impl<'a> Pruner<'a> {
@@ -54,12 +54,12 @@ impl<'a> Pruner<'a> {
         requires { leads.now ≡ lead_table problem.now }
         ensures { result ≡ record { problem = problem.now; reach = reach.now } }
     {
-        let facts = Facts::of(problem, leads);
+        let prune_limits = PruneLimits::of(problem, leads);
         Pruner {
             problem,
             leads,
             reach,
-            facts,
+            prune_limits,
         }
     }
 
@@ -119,7 +119,7 @@ impl<'a> Pruner<'a> {
             Some(Reason::SelfFalse)
         } else if walk.has_repeat() {
             Some(Reason::Again)
-        } else if walk.is_home(self.facts.several) {
+        } else if walk.is_round(self.prune_limits.several) {
             Some(Reason::Home)
         } else {
             None
@@ -147,7 +147,7 @@ impl<'a> Pruner<'a> {
     fn is_long(&self, rung: u64) -> bool
         ensures { result ≡ nat_lt (part_cap self.now.problem) rung }
     {
-        rung > self.facts.part_cap
+        rung > self.prune_limits.part_cap
     }
 
     // Whether the lead of a step has a row twice.
@@ -157,7 +157,7 @@ impl<'a> Pruner<'a> {
     {
         // There are no more of them than facts.
         let _ = self.problem.leads();
-        self.facts.false_leads[usize::from(step)]
+        self.prune_limits.false_leads[usize::from(step)]
     }
 
     // Whether the last lead of the node has a row twice.
@@ -170,14 +170,14 @@ impl<'a> Pruner<'a> {
         self.is_false(steps[steps.len() - 1])
     }
 
-    // Whether home is too far from this head, after so many rows.
+    // Whether rounds is too far from this head, after so many rows.
     fn is_far(&self, rung: u64, head: &Row) -> bool
         requires { rung ≤ 13000 }
         ensures { (most : ℕ) → self.now.reach ≡ reach_table self.now.problem most
             → result ≡ nat_lt (cap self.now.problem) (rung + shortest self.now.problem * at_least self.now.problem most head.now) }
     {
         let least = u64::from(self.reach.at_least(head));
-        rung + self.facts.shortest * least > self.facts.cap
+        rung + self.prune_limits.shortest * least > self.prune_limits.cap
     }
 
     // The number of rows of the child by a step.
@@ -190,7 +190,7 @@ impl<'a> Pruner<'a> {
         walk.length() + changes_of(self.problem, step).len() as u64
     }
 
-    // Whether home is too far from the child by a step, which has so many rows.
+    // Whether rounds is too far from the child by a step, which has so many rows.
     fn is_far_with(&self, walk: &Walk, step: u8, rung: u64) -> bool
         requires same { walk.now.problem ≡ self.now.problem }
         requires step { step < length self.now.problem.leads }
@@ -206,12 +206,12 @@ impl<'a> Pruner<'a> {
     fn is_cut_by_rows(&self, walk: &Walk) -> bool
         requires same { walk.now.problem ≡ self.now.problem }
         requires some { 0 < length walk.now.node }
-        ensures { result ≡ (is_again self.now.problem walk.now.node || is_home self.now.problem walk.now.node) }
+        ensures { result ≡ (is_again self.now.problem walk.now.node || is_round self.now.problem walk.now.node) }
     {
-        walk.has_repeat() || walk.is_home(self.facts.several)
+        walk.has_repeat() || walk.is_round(self.prune_limits.several)
     }
 
-    // Whether the child by a step turns back, or home is too far from its head, after so many rows.
+    // Whether the child by a step turns back, or rounds is too far from its head, after so many rows.
     fn is_cut(&self, walk: &Walk, step: u8, rung: u64) -> bool
         requires same { walk.now.problem ≡ self.now.problem }
         requires step { step < length self.now.problem.leads }
@@ -228,7 +228,7 @@ impl<'a> Pruner<'a> {
         requires same { walk.now.problem ≡ self.now.problem }
         ensures { result ≡ is_turned_back self.now.problem walk.now.node }
     {
-        self.facts.turn_free && walk.turns_back()
+        self.prune_limits.turn_free && walk.turns_back()
     }
 
     // The same of the child by a step.
@@ -236,7 +236,7 @@ impl<'a> Pruner<'a> {
         requires same { walk.now.problem ≡ self.now.problem }
         ensures { result ≡ is_turned_back self.now.problem (child walk.now.node step) }
     {
-        self.facts.turn_free && walk.turns_back_with(step)
+        self.prune_limits.turn_free && walk.turns_back_with(step)
     }
 }
 

@@ -7,10 +7,10 @@ ghost use Rattle.cr_model.specs.Callings.{changes_at, changes_of, rows_from, las
 ghost use Rattle.cr_model.specs.Queries.{part_cap};
 ghost use Rattle.cr_model.specs.OneTurn.{touch_of};
 ghost use Rattle.cr_model.specs.Decided.{rows_differ};
-ghost use Rattle.cr_model.specs.Dead.{parts_of, is_home, is_too_many, is_too_few};
+ghost use Rattle.cr_model.specs.Dead.{parts_of, is_round, is_too_many, is_too_few};
 ghost use Rattle.cr_model.specs.Sizes.{child};
 ghost use Rattle.cr_model.specs.Sound.{IsSound};
-ghost use Rattle.cr_model.specs.Turning.{TurnsBack, IsLeastRotation};
+ghost use Rattle.cr_model.specs.LeastRotations.{TurnsBack, IsLeastRotation};
 ghost use Rattle.cr_leads.specs.Tables.{lead_table};
 ghost use Rattle.cr_false.specs.Sets.{IsFalseTable};
 ghost use Rattle.cr_query.specs.declared.meter.Hopeless.TheVariants.{TooMany, TooFew};
@@ -20,7 +20,7 @@ ghost use Rattle.cr_prune.specs.Rung.{room_of};
 
 use crate::ends::Ends;
 use crate::first::FirstLeads;
-use crate::parts::{bring_new_rows, parts_to_ring};
+use crate::further_parts::{bring_new_rows, parts_to_ring};
 use cr_false::FalseTable;
 use cr_leads::LeadTable;
 use cr_model::laws::joined_callings_multiply;
@@ -151,11 +151,11 @@ impl<'a> Walk<'a> {
         self.first.has_repeat(self.steps.steps().len())
     }
 
-    /// Whether all rows of the node's touch differ, where those of the node do and the touch comes home. It takes no
+    /// Whether all rows of the node's touch differ, where those of the node do and the touch comes round. It takes no
     /// memory, goes through half of the parts, and stops at the first lead that brings a row of the node again.
     pub fn parts_differ(&self) -> bool
         requires fresh { rows_differ (rows_of self.now.problem self.now.node) ≡ true }
-        requires home { head_of self.now.problem (touch_of self.now.problem self.now.node) ≡ rounds self.now.problem.stage }
+        requires round { head_of self.now.problem (touch_of self.now.problem self.now.node) ≡ rounds self.now.problem.stage }
         ensures { result ≡ rows_differ (rows_of self.now.problem (touch_of self.now.problem self.now.node)) }
     {
         let head = self.ends.last().head;
@@ -213,13 +213,13 @@ impl<'a> Walk<'a> {
 
     /// Whether rounds comes too early in a node whose rows differ: before its last row, or there where there are
     /// several parts.
-    pub(crate) fn is_home(&self, several: bool) -> bool
+    pub(crate) fn is_round(&self, several: bool) -> bool
         requires differ { rows_differ (rows_of self.now.problem self.now.node) ≡ true }
         requires several { several ≡ nat_lt 1 (parts_of self.now.problem) }
-        ensures { result ≡ is_home self.now.problem self.now.node }
+        ensures { result ≡ is_round self.now.problem self.now.node }
     {
         let rounds = Row::rounds(self.problem.stage());
-        match self.first.home(&rounds) {
+        match self.first.round(&rounds) {
             Some(place) => is_early(place, self.length(), several),
             None => false,
         }

@@ -16,7 +16,7 @@ use Rattle.cr_model.specs.Dead.{is_too_many, is_too_few}
 use Rattle.cr_query.specs.Meters.{marked, lettered, fitted, has_too_many_leads, has_too_few_leads, has_too_few_rows, has_too_many_rows, is_hopeless_by_leads, is_hopeless_by_rows}
 use Rattle.cr_query.specs.Sets.{has_step}
 use Rattle.cr_query.proofs.StepSets.{steps_are}
-use Rattle.cr_query.proofs.Tellings.{any_mapped, in_order, many_in_order}
+use Rattle.cr_query.proofs.Told.{any_mapped, in_order, many_in_order}
 
 -- a gauge asked for a step that it counts or not
 pub counted_or_not : (more : ℕ) (gauge : Gauge) (counted : Bool)

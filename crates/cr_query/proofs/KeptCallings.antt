@@ -11,7 +11,7 @@ use Rattle.cr_model.specs.Decided.{rotated}
 use Rattle.cr_model.specs.Nodes.{part_of}
 use Rattle.cr_model.specs.Queries.{Meets, repeated}
 use Rattle.cr_model.specs.Touches.{Wanted, IsRotation, IsLess, Kept}
-use Rattle.cr_model.specs.Turning.{IsLeastRotation}
+use Rattle.cr_model.specs.LeastRotations.{IsLeastRotation}
 use Rattle.cr_model.proofs.InOrder.{never_itself}
 use Rattle.cr_model.proofs.LeastRotation.{rotated_is}
 use Rattle.cr_query.specs.Keeping.{HasNoneBetter}

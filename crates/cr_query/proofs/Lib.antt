@@ -9,7 +9,8 @@ pub mod Stacks
 pub mod Raising
 pub mod Shares
 pub mod LookUps
-pub mod Tellings
+pub mod Told
 pub mod Metering
 pub mod StepSets
+pub mod StepBits
 pub mod Asked

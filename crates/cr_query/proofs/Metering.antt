@@ -21,7 +21,7 @@ use Rattle.cr_model.specs.Sound.{IsSound, sound_leads, sound_patterns}
 use Rattle.cr_model.proofs.Measured.{lead_few, length_by_leads}
 use Rattle.cr_model.proofs.Below.{rows_counted}
 use Rattle.cr_query.specs.declared.gauges.Gauge.{Gauge}
-use Rattle.cr_query.specs.declared.fittings.Fitting.{Fitting}
+use Rattle.cr_query.specs.declared.pattern_limits.Fitting.{Fitting}
 use Rattle.cr_query.specs.declared.kinds.Kind.{Kind}
 use Rattle.cr_query.specs.declared.leads.LeadCounts.{LeadCounts}
 use Rattle.cr_query.specs.declared.numbers.Numbers.{Numbers}
@@ -35,7 +35,7 @@ use Rattle.cr_query.proofs.Raising.{marks_raised, letters_raised, patterns_raise
 use Rattle.cr_query.proofs.Moves.{fronts_more, fronts_fewer}
 use Rattle.cr_query.proofs.Stacks.{counted_now, counted_before, tallied_now, tallied_before, lead_now, lead_before, all_now, all_before, of_each}
 use Rattle.cr_query.proofs.Shares.{within_is}
-use Rattle.cr_query.proofs.Tellings.{many_told, few_told, out_told, room_is}
+use Rattle.cr_query.proofs.Told.{many_told, few_told, out_told, room_is}
 
 -- numbers of a node
 few_changed : (p : ProblemParts) (node : List ℕ) → changes_of_method p node ≤ length node

@@ -5,7 +5,7 @@ use Rattle.std.proofs.lemmas.List.Elements.{All-more}
 use Rattle.std.proofs.lemmas.List.Folds.{list_any_at, list_any_more}
 use Rattle.std.specs.List.{list_any}
 use Rattle.cr_query.specs.declared.tallies.Tally.{Tally}
-use Rattle.cr_query.specs.declared.fittings.Fitting.{Fitting}
+use Rattle.cr_query.specs.declared.pattern_limits.Fitting.{Fitting}
 use Rattle.cr_query.specs.Fronts.{with_number, counted_on}
 use Rattle.cr_query.specs.Gauges.{hit, at_number, raised, with_rows, fitting_rows, rows_more, counted_more}
 use Rattle.cr_query.specs.Tallies.{at_front, gauges_at, tallied, fitting_at, fittings_at, lead_on, all_on}

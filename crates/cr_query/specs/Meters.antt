@@ -13,7 +13,7 @@ use Rattle.cr_model.specs.Sizes.{child}
 use Rattle.cr_model.specs.Sound.{IsSound}
 use Rattle.cr_query.specs.declared.kinds.Kind.{Kind}
 use Rattle.cr_query.specs.declared.gauges.Gauge.{Gauge}
-use Rattle.cr_query.specs.declared.fittings.Fitting.{Fitting}
+use Rattle.cr_query.specs.declared.pattern_limits.Fitting.{Fitting}
 use Rattle.cr_query.specs.declared.numbers.Numbers.{Numbers}
 use Rattle.cr_query.specs.declared.leads.LeadCounts.{LeadCounts}
 use Rattle.cr_query.specs.Gauges.{RowGauge, fewest, too_many, AreFew, AreRooms}

@@ -3,7 +3,7 @@ use Rattle.std.specs.Prelude.{ℕ, List, get_or, map}
 use Rattle.std.specs.List.{zip}
 use Rattle.cr_query.specs.declared.gauges.Gauge.{Gauge}
 use Rattle.cr_query.specs.declared.tallies.Tally.{Tally}
-use Rattle.cr_query.specs.declared.fittings.Fitting.{Fitting}
+use Rattle.cr_query.specs.declared.pattern_limits.Fitting.{Fitting}
 use Rattle.cr_query.specs.Fronts.{counted_on}
 use Rattle.cr_query.specs.Gauges.{RowGauge, hit, fitting_rows}
 

@@ -5,10 +5,10 @@ ghost use Rattle.cr_model.specs.Right.{FitsStage, pattern_at};
 ghost use Rattle.cr_query.specs.Meters.{kinds_of, mark_gauge, letter_gauge, fitting_of};
 ghost use Rattle.cr_query.specs.Tallies.{at_front, gauges_at, fitting_at, fittings_at};
 
-use crate::fittings::Fitting;
 use crate::fronts::Fronts;
 use crate::kinds::{Kind, kind_of};
 use crate::limits::{fewest, too_many};
+use crate::pattern_limits::Fitting;
 use crate::shape::Shape;
 use crate::tallies::Tally;
 use cr_model::{Count, MethodCount, Pattern, Problem};

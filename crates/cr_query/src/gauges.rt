@@ -4,7 +4,7 @@ ghost use Rattle.std.specs.Prelude.{◌≡◌, ◌+◌, ◌<◌, ◌≤◌, ◌�
 ghost use Rattle.cr_query.specs.Gauges.{at_number, raised, is_above, is_below, is_out, IsIn};
 ghost use Rattle.cr_query.specs.Sets.{has_step};
 
-use crate::sets::steps_where;
+use crate::step_sets::steps_where;
 
 /// Limits on the leads of a part with a mark or a letter, and how many there are: no fewer than the least, and
 /// fewer than what is beyond them.

@@ -8,7 +8,7 @@ ghost use Rattle.cr_query.specs.Sets.{steps_of};
 use crate::compiling::step_count;
 use crate::kinds::kind_of;
 use crate::meeting::{com_of, counts_of, method_counts_of};
-use crate::sets::with_step;
+use crate::step_sets::with_step;
 use cr_model::{Count, MethodCount, Problem};
 use cr_row::NoMemory;
 use std::alloc::Global;

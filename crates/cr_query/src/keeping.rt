@@ -5,11 +5,11 @@ ghost use Rattle.cr_leads.specs.Tables.{lead_table};
 ghost use Rattle.cr_model.specs.Callings.{HasSteps};
 ghost use Rattle.cr_model.specs.Dead.{turn_free};
 ghost use Rattle.cr_model.specs.Touches.{Wanted, Kept, IsLess};
-ghost use Rattle.cr_model.specs.Turning.{IsLeastRotation};
+ghost use Rattle.cr_model.specs.LeastRotations.{IsLeastRotation};
 ghost use Rattle.cr_query.specs.Keeping.{IsBetter, HasNoneBetter};
 
+use crate::free_rotations::turn_free;
 use crate::meeting::{meets, meets_by_leads, meets_by_rows};
-use crate::turning::turn_free;
 use cr_leads::{LeadTable, Rung};
 use cr_model::laws::{a_rotation_of_a_true_touch_is_one, a_rotation_of_a_wanted_touch_is_wanted};
 use cr_model::{Calling, Problem};
@@ -98,11 +98,11 @@ fn is_wanted(
     meets_by_rows(alloc, problem, &rung.rows)
 }
 
-// Whether a calling that was rung comes home with rows that differ.
+// Whether a calling that was rung comes round with rows that differ.
 fn is_touch(rung: &Rung) -> bool
-    ensures { IsTrue result ↔ (IsTrue rung.now.home × IsTrue rung.now.distinct) }
+    ensures { IsTrue result ↔ (IsTrue rung.now.round × IsTrue rung.now.distinct) }
 {
-    rung.home && rung.distinct
+    rung.round && rung.distinct
 }
 
 // Whether no rotation of a calling is less.

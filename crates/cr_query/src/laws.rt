@@ -5,7 +5,7 @@ ghost use Rattle.cr_model.specs.Problems.{ProblemParts};
 ghost use Rattle.cr_model.specs.Dead.{turn_free, is_too_many, is_too_few};
 ghost use Rattle.cr_model.specs.Nodes.{part_of};
 ghost use Rattle.cr_model.specs.Touches.{Wanted, Kept};
-ghost use Rattle.cr_model.specs.Turning.{IsLeastRotation};
+ghost use Rattle.cr_model.specs.LeastRotations.{IsLeastRotation};
 ghost use Rattle.cr_query.specs.Meters.{meter_from, is_hopeless_by_leads, is_hopeless_by_rows, node_after_all, moved_by_all};
 
 use cr_model::laws::{a_rotation_of_a_wanted_touch_is_wanted, a_touch_is_its_part_repeated};

@@ -17,7 +17,7 @@ use crate::limits::{exceeds, falls_short, is_above_com, is_below_com};
 use crate::meeting::{counts_of, method_counts_of};
 use crate::nodes::{change_to, cut, kind_at, put};
 use crate::numbers::{Numbers, in_parts, with_joins};
-use crate::sets::joined;
+use crate::step_sets::joined;
 use crate::tallies::{Tally, out_steps, raise, some_above, some_below, some_out};
 use cr_model::Problem;
 use cr_model::laws::ringing_on;

@@ -2,30 +2,31 @@
 #![tactic(auto)]
 
 mod compiling;
-mod counting;
-mod fittings;
+mod equal_words;
 mod fixing;
+mod free_rotations;
 mod fronts;
 mod gauges;
 mod hits;
 mod keeping;
 mod kinds;
 pub mod laws;
+mod lead_counts;
 mod leads;
 mod limits;
 mod meeting;
 mod meter;
 mod nodes;
 mod numbers;
-mod parts;
+mod pattern_limits;
 mod rooms;
-mod sets;
 mod shape;
+pub mod step_sets;
 mod tallies;
-mod turning;
 
+pub use equal_words::has_parts;
+pub use free_rotations::turn_free;
 pub use keeping::is_kept;
 pub use meeting::meets;
 pub use meter::{Hopeless, Meter};
 pub use shape::Shape;
-pub use turning::turn_free;

@@ -7,9 +7,9 @@ ghost use Rattle.cr_model.specs.Queries.{IsWithin, rows_fitting, leads_marked, l
 ghost use Rattle.cr_model.specs.Right.{FitsStage, pattern_at};
 ghost use Rattle.cr_query.specs.Meeting.{HasLength, MeetsCounts, MeetsMethodCounts, MeetsBySteps, MeetsByLeads, MeetsByRows};
 
-use crate::counting::{changes_of_method, leads_lettered, leads_marked};
+use crate::equal_words::has_parts;
+use crate::lead_counts::{changes_of_method, leads_lettered, leads_marked};
 use crate::limits::{is_at_least, is_within, meets_com};
-use crate::parts::has_parts;
 use crate::shape::Shape;
 use cr_leads::LeadTable;
 use cr_model::{Calling, Com, Count, MethodCount, Pattern, Problem, Query};

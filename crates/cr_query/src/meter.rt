@@ -14,17 +14,17 @@ ghost use Rattle.cr_query.specs.Meters.{meter_from, parent, rows_fitting_after, 
 ghost use Rattle.cr_query.specs.declared.meter.Hopeless.TheVariants.{TooMany, TooFew};
 
 use crate::compiling::{fittings_of, kinds_of, step_count};
-use crate::fittings::{
-    Fitting, raise_counted, raise_rows, some_are_out, some_have_fewer, some_have_more,
-};
 use crate::hits::{Hits, hits_of};
 use crate::kinds::Kind;
 use crate::leads::LeadCounts;
 use crate::meeting::patterns_of;
 use crate::nodes::kind_at;
 use crate::numbers::{Numbers, numbers_of};
+use crate::pattern_limits::{
+    Fitting, raise_counted, raise_rows, some_are_out, some_have_fewer, some_have_more,
+};
 use crate::rooms::{room_at, rooms_of};
-use crate::sets::{first_steps, with_step};
+use crate::step_sets::{first_steps, with_step};
 use crate::tallies::all_in;
 use cr_leads::LeadTable;
 use cr_model::Problem;

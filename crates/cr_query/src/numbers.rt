@@ -5,7 +5,6 @@ ghost use Rattle.cr_query.specs.Gauges.{HasSmallNumbers};
 ghost use Rattle.cr_query.specs.Meters.{HasNumbers};
 
 use crate::meeting::com_of;
-use crate::parts::parts_of;
 use cr_model::{Com, Problem};
 
 /// The number of parts, the greatest lengths of a touch and of a part, the length of the shortest lead, and the
@@ -25,7 +24,7 @@ pub fn numbers_of(problem: &Problem) -> Numbers
     ensures small { HasSmallNumbers result }
 {
     Numbers {
-        parts: parts_of(problem),
+        parts: problem.parts(),
         most: problem.cap(),
         part_most: problem.part_cap(),
         shortest: problem.shortest(),

@@ -8,7 +8,7 @@ ghost use Rattle.cr_query.specs.Sets.{has_step};
 
 use crate::fronts::Fronts;
 use crate::gauges::{Gauge, hit, is_above, is_below, is_in, is_out, raised, steps_out};
-use crate::sets::joined;
+use crate::step_sets::joined;
 
 /// Limits on the leads of a part with a mark or a letter, and how many of them each front of a node has.
 #[derive(Drop)]

@@ -9,7 +9,7 @@ use Rattle.std.proofs.lemmas.List.Elements.{All-nil, All-cons, All-contains, All
 use Rattle.cr_row.specs.Rows.{rounds, product}
 use Rattle.cr_model.specs.Problems.{ProblemParts}
 use Rattle.cr_model.specs.Levels.{row_before, rows_before, is_listed, new_rows, spread, level, up_to_level, HasRoom, depth}
-use Rattle.cr_model.proofs.Listing.{all_from_held}
+use Rattle.cr_model.proofs.Listed.{all_from_held}
 use Rattle.cr_model.proofs.NewRows.{new_rows_are}
 use Rattle.cr_leads.specs.Tables.{TableParts, lead_table, leads_counted}
 use Rattle.cr_rowset.specs.Stacks.{StackParts}
@@ -102,8 +102,8 @@ first_listed table most start depth old new row answer levels some empty pushes 
           begun = omega (arith, one, begin);
           staged = subst (AreOfStage table.stage) (sym rows) (All-cons (λ r. length r ≡ table.stage) row [] long (All-nil (λ r. length r ≡ table.stage)));
           of_problem = λ p table_is.
-              let home : row ≡ rounds p.stage = is ∙ ap (λ (t : TableParts). rounds t.stage) table_is in
-              let alone : new.rows ≡ rounds p.stage ∷ [] = rows ∙ ap (λ r. r ∷ []) home in
+              let round : row ≡ rounds p.stage = is ∙ ap (λ (t : TableParts). rounds t.stage) table_is in
+              let alone : new.rows ≡ rounds p.stage ∷ [] = rows ∙ ap (λ r. r ∷ []) round in
               let e₀ = level_first p in
               record {
                 all = alone ∙ sym e₀.1 ∙ ap (up_to_level p) (sym low);

@@ -7,7 +7,7 @@ use Rattle.std.proofs.lemmas.List.{append-nil, append_assoc}
 use Rattle.std.proofs.lemmas.List.Elements.{Contains-append_left, Contains-append_right, Contains-append_cases}
 use Rattle.cr_model.specs.Levels.{is_listed, new_rows}
 use Rattle.cr_model.proofs.InOrder.{contains_cases, contains_more}
-use Rattle.cr_model.proofs.Listing.{held_first}
+use Rattle.cr_model.proofs.Listed.{held_first}
 use Rattle.cr_model.proofs.NewRows.{listed_decided}
 
 -- lists that hold the same answer the same

@@ -9,7 +9,7 @@ ghost use Rattle.cr_reach.specs.Tables.{reach_table};
 use crate::inverses::inverse_heads;
 use crate::spreading::push_level;
 use cr_leads::LeadTable;
-use cr_model::laws::{levels_list_rows, no_fewer_leads_lead_home, the_depth_is_greatest};
+use cr_model::laws::{levels_list_rows, no_fewer_leads_lead_to_rounds, the_depth_is_greatest};
 use cr_row::{NoMemory, Row, product_of_rows, rounds_is_neutral};
 use cr_rowset::RowStack;
 use std::alloc::Global;
@@ -18,7 +18,7 @@ use std::marker::Model;
 // For so many rows there is room at first. Most problems have fewer heads, and room for many takes a while to clear.
 const FEW_ROWS: u64 = 8_192;
 
-/// The rows that are few leads from rounds, each with the least number of leads that lead home from it.
+/// The rows that are few leads from rounds, each with the least number of leads that lead to rounds from it.
 ///
 /// It is seen as its depth, its rows and the level of each. All rows of the levels up to the depth are
 /// in it.
@@ -72,7 +72,7 @@ impl ReachTable {
         ensures { (p : ProblemParts) (most : ℕ) → self.now ≡ reach_table p most → result ≡ at_least p most head.now }
     {
         levels_list_rows();
-        no_fewer_leads_lead_home();
+        no_fewer_leads_lead_to_rounds();
         match self.rows.place_of(head) {
             Some(place) => self.levels[place as usize],
             None => self.depth + 1,
@@ -80,7 +80,7 @@ impl ReachTable {
     }
 }
 
-// A table, and whether it is known that it has all rows from which leads lead home.
+// A table, and whether it is known that it has all rows from which leads lead to rounds.
 #[derive(Drop)]
 struct Listing {
     table: ReachTable,

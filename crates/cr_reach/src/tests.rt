@@ -65,7 +65,7 @@ fn reach(alloc: Global, most_rows: u64) -> Result<ReachTable, Fail> {
     }
 }
 
-// The most rows, the depth, and how far the rows below are from home.
+// The most rows, the depth, and how far the rows below are from rounds.
 type Wanted = (&'static str, u64, u32, [u32; 7]);
 
 const ROWS: &[&[u8]] = &[

@@ -17,7 +17,7 @@ use Rattle.cr_model.specs.Notation.{Spells}
 use Rattle.cr_model.specs.NotationFaults.{FirstFault}
 use Rattle.cr_model.specs.Keys.{key_faults}
 use Rattle.cr_model.specs.Files.{FileParts, file_of, Reads, IsFile}
-use Rattle.cr_model.specs.ProblemFiles.{Tunes, CallsPass, Makes, ProblemFile, FirstProblemFault, MakesWrong, parts_of}
+use Rattle.cr_model.specs.ProblemFiles.{Spellings, CallsPass, Makes, ProblemFile, FirstProblemFault, MakesWrong, parts_of}
 use Rattle.cr_notation.specs.Reading.{read_all}
 use Rattle.cr_notation.proofs.Decided.{IsAnswer, read_answers}
 use Rattle.cr_read.proofs.LeadsRight.{leads_right, letters_right}
@@ -64,11 +64,11 @@ is_file bytes file text tells = file_by bytes file (parse_document bytes) (IsUtf
 abbrev pub later_checks : ProblemParts → List (Check PartFault)
 later_checks p = steps_check p ∷ (length_checks p ++ query_checks p)
 
-module _ (file : FileParts) (n : ℕ) (tunes : Tunes) (pass : CallsPass file n tunes) (some : 1 ≤ length file.methods) where
-  makes : Makes file (parts_of n file tunes)
-  makes = record { n = n; tunes = tunes; passes = pass; is = refl }
+module _ (file : FileParts) (n : ℕ) (spellings : Spellings) (pass : CallsPass file n spellings) (some : 1 ≤ length file.methods) where
+  makes : Makes file (parts_of n file spellings)
+  makes = record { n = n; spellings = spellings; passes = pass; is = refl }
 
-  pub is_problem : (bytes : List ℕ) → IsFile bytes file → AllHold (later_checks (parts_of n file tunes)) → ProblemFile bytes (parts_of n file tunes)
+  pub is_problem : (bytes : List ℕ) → IsFile bytes file → AllHold (later_checks (parts_of n file spellings)) → ProblemFile bytes (parts_of n file spellings)
   is_problem bytes is hold = record {
     file = file;
     is_file = is;
@@ -76,15 +76,15 @@ module _ (file : FileParts) (n : ℕ) (tunes : Tunes) (pass : CallsPass file n t
     sound = record {
       stage_from = pass.before.before.before.before.before.before.before.from;
       stage_to = pass.before.before.before.before.before.before.before.to;
-      checks = (letters_right file n tunes pass some, (leads_right file n tunes pass some, hold));
+      checks = (letters_right file n spellings pass some, (leads_right file n spellings pass some, hold));
     };
   }
 
-  pub makes_wrong : (why : PartFault) → IsFirstFailure (later_checks (parts_of n file tunes)) why → MakesWrong file why
+  pub makes_wrong : (why : PartFault) → IsFirstFailure (later_checks (parts_of n file spellings)) why → MakesWrong file why
   makes_wrong why first = (
-    parts_of n file tunes,
+    parts_of n file spellings,
     makes,
-    record { first = inr (letters_right file n tunes pass some, inr (leads_right file n tunes pass some, first)) },
+    record { first = inr (letters_right file n spellings pass some, inr (leads_right file n spellings pass some, first)) },
   )
 
 -- no TOML, and the first key at fault

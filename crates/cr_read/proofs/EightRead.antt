@@ -6,11 +6,11 @@ use Rattle.cr_model.specs.Examples.{on_five}
 use Rattle.cr_model.specs.Right.{LetterIsRight}
 use Rattle.cr_model.specs.Notation.{Spells}
 use Rattle.cr_model.specs.Files.{FileParts}
-use Rattle.cr_model.specs.ProblemFiles.{Tunes, letters_of, mark_at, over_at, tune_at, MarkIsRight, OverIsRight, Fits, CallsSpell, CallsPass}
+use Rattle.cr_model.specs.ProblemFiles.{Spellings, letters_of, mark_at, over_at, spelling_at, MarkIsRight, OverIsRight, Fits, CallsSpell, CallsPass}
 use Rattle.cr_notation.specs.Reading.{read_all, read_from, byte_step, step, place_step, cross_step, dot_step, comma_step, end_step, closed}
 use Rattle.cr_read.proofs.ByExample.{each, spelled}
 use Rattle.cr_read.proofs.CallFacts.{called_length}
-use Rattle.cr_read.proofs.DoublesRead.{bob, bob_tune, call_read}
+use Rattle.cr_read.proofs.DoublesRead.{bob, bob_spelling, call_read}
 
 abbrev pub file : FileParts
 file = record {
@@ -29,8 +29,8 @@ file = record {
 abbrev one_change : List Places
 one_change = map on_five ((5 ∷ []) ∷ [])
 
-abbrev pub tunes : Tunes
-tunes = record { methods = replicate 8 one_change; calls = replicate 3 bob_tune }
+abbrev pub spellings : Spellings
+spellings = record { methods = replicate 8 one_change; calls = replicate 3 bob_spelling }
 
 one_read : read_all 5 (codes "5") ≡ Ok one_change
 unfolding read_all read_from byte_step step place_step cross_step dot_step comma_step end_step closed
@@ -53,10 +53,10 @@ letter_right i h =
 one_spelled : Spells 5 (codes "5") one_change
 one_spelled = spelled 5 (codes "5") one_change one_read
 
-bob_spelled : Spells 5 (codes "145") bob_tune
-bob_spelled = spelled 5 (codes "145") bob_tune call_read
+bob_spelled : Spells 5 (codes "145") bob_spelling
+bob_spelled = spelled 5 (codes "145") bob_spelling call_read
 
-spell : CallsSpell file 5 tunes
+spell : CallsSpell file 5 spellings
 spell = record {
   before = record {
     before = record { before = record { is = refl; from = omega arith; to = omega arith }; letters = letter_right };
@@ -75,24 +75,24 @@ mark_right i h =
     record { from = omega (arith, here); to = omega (arith, here); called = λ same. absurd (omega (arith, here, same)) }
 
 -- each call replaces the one change of each method by its own
-method_short : (i : ℕ) → i < 8 → length (tune_at tunes.methods i) ≡ 1
-method_short = each (λ i. length (tune_at tunes.methods i) ≡ 1) 8 ((((((((tt, refl), refl), refl), refl), refl), refl), refl), refl)
+method_short : (i : ℕ) → i < 8 → length (spelling_at spellings.methods i) ≡ 1
+method_short = each (λ i. length (spelling_at spellings.methods i) ≡ 1) 8 ((((((((tt, refl), refl), refl), refl), refl), refl), refl), refl)
 
-call_short : (i : ℕ) → i < 3 → length (tune_at tunes.calls i) ≡ 1
-call_short = each (λ i. length (tune_at tunes.calls i) ≡ 1) 3 (((tt, refl), refl), refl)
+call_short : (i : ℕ) → i < 3 → length (spelling_at spellings.calls i) ≡ 1
+call_short = each (λ i. length (spelling_at spellings.calls i) ≡ 1) 3 (((tt, refl), refl), refl)
 
-replaced : (i : ℕ) → i < 3 → unwrap_or (over_at file i) (length (tune_at tunes.calls i)) ≡ 1
-replaced = each (λ i. unwrap_or (over_at file i) (length (tune_at tunes.calls i)) ≡ 1) 3 (((tt, refl), refl), refl)
+replaced : (i : ℕ) → i < 3 → unwrap_or (over_at file i) (length (spelling_at spellings.calls i)) ≡ 1
+replaced = each (λ i. unwrap_or (over_at file i) (length (spelling_at spellings.calls i)) ≡ 1) 3 (((tt, refl), refl), refl)
 
-fits : (call method : ℕ) → call < 3 → method < 8 → Fits file tunes call method
+fits : (call method : ℕ) → call < 3 → method < 8 → Fits file spellings call method
 fits call method of_calls of_methods =
     let short = method_short method of_methods in
     let own = call_short call of_calls in
     let over = replaced call of_calls in
-    let long = called_length (over_at file call) (tune_at tunes.calls call) (tune_at tunes.methods method) in
+    let long = called_length (over_at file call) (spelling_at spellings.calls call) (spelling_at spellings.methods method) in
     record { over = omega (arith, short, over); short = omega (arith, long, short, own, over) }
 
-pub eight_pass : CallsPass file 5 tunes
+pub eight_pass : CallsPass file 5 spellings
 eight_pass = record {
   before = record {
     before = record { before = record { before = spell; overs = each (OverIsRight file) 3 (((tt, tt), tt), tt) }; marks = mark_right };

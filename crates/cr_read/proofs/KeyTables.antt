@@ -4,7 +4,7 @@ use Rattle.std.specs.Prelude.{flat_map}
 use Rattle.toml.specs.Data.{Members}
 use Rattle.cr_model.specs.Keys.{table_faults, unknown_keys, key_fault, stage_key, part_faults, parts, top_names, written_letters, key_faults}
 use Rattle.cr_read.specs.FirstKeys.{key_of, known_faults}
-use Rattle.cr_read.specs.declared.parts.Key.{Key}
+use Rattle.cr_read.specs.declared.key_table.Key.{Key}
 
 names_are : (letters : List (List ℕ)) (known : List Key) → map (λ key. key.name) (map (key_of letters) known) ≡ map (λ key. key.name.now) known
 names_are letters [] = refl

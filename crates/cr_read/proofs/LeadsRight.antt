@@ -22,8 +22,8 @@ use Rattle.cr_model.proofs.OneFault.{exact_letters, exact_leads}
 use Rattle.cr_model.specs.Notation.{Spells}
 use Rattle.cr_model.specs.Right.{plain, AreOfStage, LettersAreRight, LeadIsRight, LeadsAreRight, StepIsRight, IsNextStep}
 use Rattle.cr_model.specs.Files.{FileParts}
-use Rattle.cr_model.specs.ProblemFiles.{Tunes, letters_of, method_texts, call_texts, mark_at, is_for, tune_at, over_at, called_tune, call_with, lead_from, byte_of, called_lead, leads_of_method, leads_of, LettersPass, CallsSpell, CallsPass, Makes, IsFileFault}
-use Rattle.cr_read.specs.Reading.{IsTuned, Refused, IsLater, file_fault}
+use Rattle.cr_model.specs.ProblemFiles.{Spellings, letters_of, method_texts, call_texts, mark_at, is_for, spelling_at, over_at, called_spelling, call_with, lead_from, byte_of, called_lead, leads_of_method, leads_of, LettersPass, CallsSpell, CallsPass, Makes, IsFileFault}
+use Rattle.cr_read.specs.Reading.{HasSpellings, Refused, IsLater, file_fault}
 use Rattle.cr_read.proofs.CallFacts.{called_length}
 use Rattle.cr_notation.proofs.Spelled.{spelled_changes}
 use Rattle.cr_read.proofs.StepOrder.{Chained, GoOn, last_step, chained_append, chained_at, each_of, IsMarked, marked_each, marks_in_order, methods_in_order, methods_led}
@@ -39,12 +39,12 @@ pub record IsGood (n methods : ℕ) (lead : LeadParts) : Type 0 where
   pub to : lead.step.mark ≤ 122
   pub known : lead.step.method < methods
 
-spelled_tune : (n : ℕ) (texts : List (List ℕ)) (tunes : List (List Places)) → AllZip (Spells n) texts tunes → (i : ℕ) → i < length texts → Spells n (get_or texts i []) (get_or tunes i [])
-spelled_tune n [] [] all i h = absurd (omega arith)
-spelled_tune n [] (tune ∷ tunes) all i h = absurd all
-spelled_tune n (text ∷ texts) [] all i h = absurd all
-spelled_tune n (text ∷ texts) (tune ∷ tunes) all zero h = all.0
-spelled_tune n (text ∷ texts) (tune ∷ tunes) all (suc i) h = spelled_tune n texts tunes all.1 i (omega arith)
+spelling_spelled : (n : ℕ) (texts : List (List ℕ)) (spellings : List (List Places)) → AllZip (Spells n) texts spellings → (i : ℕ) → i < length texts → Spells n (get_or texts i []) (get_or spellings i [])
+spelling_spelled n [] [] all i h = absurd (omega arith)
+spelling_spelled n [] (spelling ∷ spellings) all i h = absurd all
+spelling_spelled n (text ∷ texts) [] all i h = absurd all
+spelling_spelled n (text ∷ texts) (spelling ∷ spellings) all zero h = all.0
+spelling_spelled n (text ∷ texts) (spelling ∷ spellings) all (suc i) h = spelling_spelled n texts spellings all.1 i (omega arith)
 
 -- what is found passes the test, and is in the range
 pub found_at : (test : ℕ → Bool) (a n x : ℕ) → find test (range_with_len a n) ≡ Some x → (x < a + n) × (test x ≡ true)
@@ -61,86 +61,86 @@ found_at test a (suc n) x is = elim (cases_Bool (test a)) [
 pub same_mark : (a b : ℕ) → nat_eq a b ≡ true → a ≡ b
 same_mark a b is = grind (arith, nat_tests)
 
-module _ (file : FileParts) (n : ℕ) (tunes : Tunes) (pass : CallsPass file n tunes) where
+module _ (file : FileParts) (n : ℕ) (spellings : Spellings) (pass : CallsPass file n spellings) where
   abbrev methods : ℕ
   methods = length file.methods
 
   abbrev Good : LeadParts → Type 0
   Good lead = IsGood n methods lead
 
-  method_spells : (m : ℕ) → m < length file.methods → Spells n (get_or (method_texts file) m []) (tune_at tunes.methods m)
-  method_spells m low = spelled_tune n (method_texts file) tunes.methods pass.before.before.before.before.before.methods_spell m (rw (length-map file.methods (λ method. method.notation)) low)
+  method_spells : (m : ℕ) → m < length file.methods → Spells n (get_or (method_texts file) m []) (spelling_at spellings.methods m)
+  method_spells m low = spelling_spelled n (method_texts file) spellings.methods pass.before.before.before.before.before.methods_spell m (rw (length-map file.methods (λ method. method.notation)) low)
 
-  call_spells : (c : ℕ) → c < length file.calls → Spells n (get_or (call_texts file) c []) (tune_at tunes.calls c)
-  call_spells c low = spelled_tune n (call_texts file) tunes.calls pass.before.before.before.before.calls_spell c (rw (length-map file.calls (λ call. call.notation)) low)
+  call_spells : (c : ℕ) → c < length file.calls → Spells n (get_or (call_texts file) c []) (spelling_at spellings.calls c)
+  call_spells c low = spelling_spelled n (call_texts file) spellings.calls pass.before.before.before.before.calls_spell c (rw (length-map file.calls (λ call. call.notation)) low)
 
-  plain_good : (m : ℕ) → m < length file.methods → Good (lead_from m plain (tune_at tunes.methods m))
+  plain_good : (m : ℕ) → m < length file.methods → Good (lead_from m plain (spelling_at spellings.methods m))
   plain_good m low =
       let spells = method_spells m low in
       record {
-        changes = record { some = spells.at_least; few = spells.at_most; each = spelled_changes n _ (tune_at tunes.methods m) spells };
+        changes = record { some = spells.at_least; few = spells.at_most; each = spelled_changes n _ (spelling_at spellings.methods m) spells };
         from = omega arith;
         to = omega arith;
         known = low;
       }
 
-  called_good : (m mark c : ℕ) → m < length file.methods → c < length file.calls → mark_at file c ≡ mark → is_for file c m ≡ true → Good (lead_from m mark (called_tune file tunes c m))
+  called_good : (m mark c : ℕ) → m < length file.methods → c < length file.calls → mark_at file c ≡ mark → is_for file c m ≡ true → Good (lead_from m mark (called_spelling file spellings c m))
   called_good m mark c low within is for_it =
       let marked = pass.before.before.marks c within in
       let fits = pass.before.fits c within m low for_it in
       let call = call_spells c within in
       let rung = method_spells m low in
-      let long = called_length (over_at file c) (tune_at tunes.calls c) (tune_at tunes.methods m) in
-      let least : 1 ≤ length (tune_at tunes.calls c) = call.at_least in
+      let long = called_length (over_at file c) (spelling_at spellings.calls c) (spelling_at spellings.methods m) in
+      let least : 1 ≤ length (spelling_at spellings.calls c) = call.at_least in
       let from : 97 ≤ mark_at file c = marked.from in
       let to : mark_at file c ≤ 122 = marked.to in
       record {
         changes = record {
           some = omega arith;
           few = fits.short;
-          each = All-append (IsOf n) _ (tune_at tunes.calls c) (All-take (IsOf n) _ (tune_at tunes.methods m) (spelled_changes n _ (tune_at tunes.methods m) rung)) (spelled_changes n _ (tune_at tunes.calls c) call);
+          each = All-append (IsOf n) _ (spelling_at spellings.calls c) (All-take (IsOf n) _ (spelling_at spellings.methods m) (spelled_changes n _ (spelling_at spellings.methods m) rung)) (spelled_changes n _ (spelling_at spellings.calls c) call);
         };
         from = omega arith;
         to = omega arith;
         known = low;
       }
 
-  called_marked : (m mark : ℕ) (found : Option ℕ) → m < length file.methods → call_with file m mark ≡ found → IsMarked Good m mark (called_lead file tunes m mark found)
+  called_marked : (m mark : ℕ) (found : Option ℕ) → m < length file.methods → call_with file m mark ≡ found → IsMarked Good m mark (called_lead file spellings m mark found)
   called_marked m mark None low is = inl refl
   called_marked m mark (Some c) low is =
       let at = found_at (λ call. nat_eq (mark_at file call) mark && is_for file call m) 0 (length file.calls) c is in
       let within : c < length file.calls = (let h : c < 0 + length file.calls = at.0 in omega arith) in
       let (same, for_it) = and_parts (nat_eq (mark_at file c) mark) (is_for file c m) at.1 in
       let named : mark_at file c ≡ mark = same_mark (mark_at file c) mark same in
-      inr (called_tune file tunes c m, refl, (λ is_plain. (pass.before.before.marks c within).called (named ∙ is_plain)), called_good m mark c low within named for_it)
+      inr (called_spelling file spellings c m, refl, (λ is_plain. (pass.before.before.marks c within).called (named ∙ is_plain)), called_good m mark c low within named for_it)
 
   abbrev marks : ℕ → ℕ → List LeadParts
-  marks m mark = called_lead file tunes m mark (call_with file m mark)
+  marks m mark = called_lead file spellings m mark (call_with file m mark)
 
   abbrev later_leads : ℕ → List LeadParts
   later_leads m = flat_map (marks m) (range_with_len 97 26)
 
   abbrev first_lead : ℕ → LeadParts
-  first_lead m = lead_from m plain (tune_at tunes.methods m)
+  first_lead m = lead_from m plain (spelling_at spellings.methods m)
 
-  method_good : (m : ℕ) → m < length file.methods → All Good (leads_of_method file tunes m)
+  method_good : (m : ℕ) → m < length file.methods → All Good (leads_of_method file spellings m)
   method_good m low = All-cons Good (first_lead m) (later_leads m) (plain_good m low)
       (each_of Good (marks m) 97 26 (λ mark from to. marked_each Good m mark (marks m mark) (called_marked m mark (call_with file m mark) low refl)))
 
-  all_good : All Good (leads_of file tunes)
-  all_good = each_of Good (leads_of_method file tunes) 0 methods (λ m from to. method_good m (omega arith))
+  all_good : All Good (leads_of file spellings)
+  all_good = each_of Good (leads_of_method file spellings) 0 methods (λ m from to. method_good m (omega arith))
 
   -- the first lead, and those that follow in order
-  front : (k : ℕ) → length file.methods ≡ suc k → leads_of file tunes ≡ first_lead 0 ∷ (later_leads 0 ++ flat_map (leads_of_method file tunes) (range_with_len 1 k))
-  front k is = ap (λ number. flat_map (leads_of_method file tunes) (range_with_len 0 number)) is
+  front : (k : ℕ) → length file.methods ≡ suc k → leads_of file spellings ≡ first_lead 0 ∷ (later_leads 0 ++ flat_map (leads_of_method file spellings) (range_with_len 1 k))
+  front k is = ap (λ number. flat_map (leads_of_method file spellings) (range_with_len 0 number)) is
 
   later_in_order : (m : ℕ) → m < length file.methods → GoOn (first_lead m).step m (later_leads m)
   later_in_order m low = marks_in_order Good m (marks m) (first_lead m).step 97 26 (λ mark from to. called_marked m mark (call_with file m mark) low refl) refl (inl refl)
 
-  rest_in_order : (k : ℕ) → length file.methods ≡ suc k → Chained (first_lead 0).step (later_leads 0 ++ flat_map (leads_of_method file tunes) (range_with_len 1 k))
+  rest_in_order : (k : ℕ) → length file.methods ≡ suc k → Chained (first_lead 0).step (later_leads 0 ++ flat_map (leads_of_method file spellings) (range_with_len 1 k))
   rest_in_order k is =
       let here = later_in_order 0 (omega arith) in
-      chained_append (first_lead 0).step (later_leads 0) (flat_map (leads_of_method file tunes) (range_with_len 1 k)) here.0
+      chained_append (first_lead 0).step (later_leads 0) (flat_map (leads_of_method file spellings) (range_with_len 1 k)) here.0
       (methods_in_order first_lead later_leads (last_step (first_lead 0).step (later_leads 0)) 1 k (λ m from to. (refl, later_in_order m (omega arith))) (ap (λ x. x + 1) here.1))
 
   steps_right : (first : LeadParts) (rest leads : List LeadParts) → leads ≡ first ∷ rest → first.step.method ≡ 0 → first.step.mark ≡ plain → Chained first.step rest → (i : ℕ) → i < length leads → StepIsRight leads i
@@ -157,12 +157,12 @@ module _ (file : FileParts) (n : ℕ) (tunes : Tunes) (pass : CallsPass file n t
         subst (λ (j : ℕ). IsNextStep (step_at leads j) (step_at leads (suc i))) (sym before) (subst (λ (ls : List LeadParts). IsNextStep (step_at ls i) (step_at ls (suc i))) (sym is) next);
   }
 
-  lead_right : (i : ℕ) → i < length (leads_of file tunes) → StepIsRight (leads_of file tunes) i → LeadIsRight n (length (letters_of file)) (leads_of file tunes) i
+  lead_right : (i : ℕ) → i < length (leads_of file spellings) → StepIsRight (leads_of file spellings) i → LeadIsRight n (length (letters_of file)) (leads_of file spellings) i
   lead_right i low next =
       let none : LeadParts = lead_from 0 0 [] in
-      let good : Good (get_or (leads_of file tunes) i none) = All-get_or Good (leads_of file tunes) i none low all_good in
-      let step : step_at (leads_of file tunes) i ≡ (get_or (leads_of file tunes) i none).step = get_or-map (λ lead. lead.step) (leads_of file tunes) i none (record { method = 0; mark = 0 }) low in
-      let changes : changes_at (leads_of file tunes) i ≡ (get_or (leads_of file tunes) i none).changes = get_or-map (λ lead. lead.changes) (leads_of file tunes) i none [] low in
+      let good : Good (get_or (leads_of file spellings) i none) = All-get_or Good (leads_of file spellings) i none low all_good in
+      let step : step_at (leads_of file spellings) i ≡ (get_or (leads_of file spellings) i none).step = get_or-map (λ lead. lead.step) (leads_of file spellings) i none (record { method = 0; mark = 0 }) low in
+      let changes : changes_at (leads_of file spellings) i ≡ (get_or (leads_of file spellings) i none).changes = get_or-map (λ lead. lead.changes) (leads_of file spellings) i none [] low in
       record {
         changes = subst (λ (cs : List Places). AreOfStage n cs) (sym changes) good.changes;
         from = subst (λ (s : Step). 97 ≤ s.mark) (sym step) good.from;
@@ -171,14 +171,14 @@ module _ (file : FileParts) (n : ℕ) (tunes : Tunes) (pass : CallsPass file n t
         next = next;
       }
 
-  pub leads_right : 1 ≤ length file.methods → LeadsAreRight n (length (letters_of file)) (leads_of file tunes)
+  pub leads_right : 1 ≤ length file.methods → LeadsAreRight n (length (letters_of file)) (leads_of file spellings)
   leads_right some =
       let k : ℕ = length file.methods - 1 in
       let is : length file.methods ≡ suc k = omega arith in
       let shape = front k is in
       record {
         some = rw shape (omega arith);
-        each = λ i low. lead_right i low (steps_right (first_lead 0) _ (leads_of file tunes) shape refl refl (rest_in_order k is) i low);
+        each = λ i low. lead_right i low (steps_right (first_lead 0) _ (leads_of file spellings) shape refl refl (rest_in_order k is) i low);
         led = λ m low. methods_led first_lead later_leads 0 (length file.methods) m (λ i. refl) (omega arith) (let h : m < length file.methods = rw (length-map file.methods (λ method. byte_of method.letter)) at low in omega arith);
       }
 
@@ -188,11 +188,11 @@ module _ (file : FileParts) (n : ℕ) (tunes : Tunes) (pass : CallsPass file n t
     each = λ i low. pass.before.before.before.before.before.before.letters i (rw (length-map file.methods (λ method. byte_of method.letter)) at low);
   }
 
--- there is a tune for each text
-pub tuned : (file : FileParts) (n : ℕ) (tunes : Tunes) → CallsSpell file n tunes → IsTuned file tunes
-tuned file n tunes pass = record {
-  methods = AllZip-long (Spells n) (method_texts file) tunes.methods pass.before.methods_spell ∙ length-map file.methods (λ method. method.notation);
-  calls = AllZip-long (Spells n) (call_texts file) tunes.calls pass.calls_spell ∙ length-map file.calls (λ call. call.notation);
+-- there is a spelling for each text
+pub has_spellings : (file : FileParts) (n : ℕ) (spellings : Spellings) → CallsSpell file n spellings → HasSpellings file spellings
+has_spellings file n spellings pass = record {
+  methods = AllZip-long (Spells n) (method_texts file) spellings.methods pass.before.methods_spell ∙ length-map file.methods (λ method. method.notation);
+  calls = AllZip-long (Spells n) (call_texts file) spellings.calls pass.calls_spell ∙ length-map file.calls (λ call. call.notation);
 }
 
 -- there are no more methods than letters that may be right

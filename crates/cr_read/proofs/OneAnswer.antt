@@ -24,7 +24,7 @@ use Rattle.cr_model.specs.Notation.{Spells}
 use Rattle.cr_model.specs.NotationFaults.{FirstFault}
 use Rattle.cr_model.specs.Keys.{key_faults}
 use Rattle.cr_model.specs.Files.{FileParts, file_of, Reads, IsFile}
-use Rattle.cr_model.specs.ProblemFiles.{Tunes, letters_of, method_texts, call_texts, mark_at, is_for, OverIsRight, MarkIsRight, Fits, FitsAll, AreApart, parts_of, StagePasses, LettersPass, MethodsSpell, CallsSpell, OversPass, MarksPass, LengthsPass, Makes, ProblemFile, IsFirstUnspelled, IsFileFault, FirstProblemFault}
+use Rattle.cr_model.specs.ProblemFiles.{Spellings, letters_of, method_texts, call_texts, mark_at, is_for, OverIsRight, MarkIsRight, Fits, FitsAll, AreApart, parts_of, StagePasses, LettersPass, MethodsSpell, CallsSpell, OversPass, MarksPass, LengthsPass, Makes, ProblemFile, IsFirstUnspelled, IsFileFault, FirstProblemFault}
 use Rattle.cr_read.specs.Reading.{file_fault}
 
 -- an answer: a problem, or a fault
@@ -101,20 +101,20 @@ abbrev pub NeverBoth : Type 0
 NeverBoth = (n : ℕ) (text : List ℕ) (changes : List Places) (why : NotationFault) → Spells n text changes → FirstFault n text why → ⊥
 
 module _ (one_list : OneList) (one_fault : OneFault) (never_both : NeverBoth) where
-  same_tunes : (n : ℕ) (texts : List (List ℕ)) (xs ys : List (List Places)) → AllZip (Spells n) texts xs → AllZip (Spells n) texts ys → xs ≡ ys
-  same_tunes n [] [] [] a b = refl
-  same_tunes n [] [] (y ∷ ys) a b = absurd b
-  same_tunes n [] (x ∷ xs) ys a b = absurd a
-  same_tunes n (text ∷ texts) [] ys a b = absurd a
-  same_tunes n (text ∷ texts) (x ∷ xs) [] a b = absurd b
-  same_tunes n (text ∷ texts) (x ∷ xs) (y ∷ ys) a b = ap₂ ◌∷◌ (one_list n text x y a.0 b.0) (same_tunes n texts xs ys a.1 b.1)
+  same_spellings : (n : ℕ) (texts : List (List ℕ)) (xs ys : List (List Places)) → AllZip (Spells n) texts xs → AllZip (Spells n) texts ys → xs ≡ ys
+  same_spellings n [] [] [] a b = refl
+  same_spellings n [] [] (y ∷ ys) a b = absurd b
+  same_spellings n [] (x ∷ xs) ys a b = absurd a
+  same_spellings n (text ∷ texts) [] ys a b = absurd a
+  same_spellings n (text ∷ texts) (x ∷ xs) [] a b = absurd b
+  same_spellings n (text ∷ texts) (x ∷ xs) (y ∷ ys) a b = ap₂ ◌∷◌ (one_list n text x y a.0 b.0) (same_spellings n texts xs ys a.1 b.1)
 
-  spelled_at : (n : ℕ) (texts : List (List ℕ)) (tunes : List (List Places)) → AllZip (Spells n) texts tunes → (i : ℕ) → i < length texts → Spells n (get_or texts i []) (get_or tunes i [])
+  spelled_at : (n : ℕ) (texts : List (List ℕ)) (spellings : List (List Places)) → AllZip (Spells n) texts spellings → (i : ℕ) → i < length texts → Spells n (get_or texts i []) (get_or spellings i [])
   spelled_at n [] [] all i h = absurd (omega arith)
-  spelled_at n [] (tune ∷ tunes) all i h = absurd all
+  spelled_at n [] (spelling ∷ spellings) all i h = absurd all
   spelled_at n (text ∷ texts) [] all i h = absurd all
-  spelled_at n (text ∷ texts) (tune ∷ tunes) all zero h = all.0
-  spelled_at n (text ∷ texts) (tune ∷ tunes) all (suc i) h = spelled_at n texts tunes all.1 i (omega arith)
+  spelled_at n (text ∷ texts) (spelling ∷ spellings) all zero h = all.0
+  spelled_at n (text ∷ texts) (spelling ∷ spellings) all (suc i) h = spelled_at n texts spellings all.1 i (omega arith)
 
   -- the first text that spells nothing
   not_before : (n : ℕ) (texts : List (List ℕ)) (i j : ℕ) (why other : NotationFault) → IsFirstUnspelled n texts i why → IsFirstUnspelled n texts j other → i < j → ⊥
@@ -136,11 +136,11 @@ module _ (one_list : OneList) (one_fault : OneFault) (never_both : NeverBoth) wh
       let same : a.1 ≡ b.1 = one_fault n (get_or texts a.0 []) a.1 b.1 a.3.wrong there in
       a.2 ∙ ap₂ (λ i why. Err (name i why)) at same ∙ sym b.2
 
-  spelling_check : (name : ℕ → NotationFault → ProblemFault) (n : ℕ) (texts : List (List ℕ)) (Next : List (List Places) → Verdict → Type 0) → ((tunes : List (List Places)) → AllZip (Spells n) texts tunes → IsOne (Next tunes))
+  spelling_check : (name : ℕ → NotationFault → ProblemFault) (n : ℕ) (texts : List (List ℕ)) (Next : List (List Places) → Verdict → Type 0) → ((spellings : List (List Places)) → AllZip (Spells n) texts spellings → IsOne (Next spellings))
       → IsOne (Level (Unspelled name n texts) (AllZip (Spells n) texts) Next)
   spelling_check name n texts Next next = level_one (Unspelled name n texts) (AllZip (Spells n) texts) Next (unspelled_one name n texts)
-      (λ r tunes a all. never_both n (get_or texts a.0 []) (get_or tunes a.0 []) a.1 (spelled_at n texts tunes all a.0 a.3.within) a.3.wrong)
-      (λ xs ys a b. same_tunes n texts xs ys a b) next
+      (λ r spellings a all. never_both n (get_or texts a.0 []) (get_or spellings a.0 []) a.1 (spelled_at n texts spellings all a.0 a.3.within) a.3.wrong)
+      (λ xs ys a b. same_spellings n texts xs ys a b) next
 
   module _ (file : FileParts) where
     abbrev ClashFails : Verdict → Type 0
@@ -155,26 +155,26 @@ module _ (one_list : OneList) (one_fault : OneFault) (never_both : NeverBoth) wh
         let there : IsFirstWrong (λ i. AreApart file i a.1) a.1 b.0 = subst (λ (k : ℕ). IsFirstWrong (λ i. AreApart file i k) k b.0) (sym later) b.4 in
         a.2 ∙ ap₂ (λ x y. Err (fault.Clash x y)) (one_first (λ i. AreApart file i a.1) a.1 a.0 b.0 a.4 there) later ∙ sym b.2
 
-    abbrev ClashAnswer : ℕ → Tunes → Verdict → Type 0
-    ClashAnswer n tunes = Check ClashFails Apart (PartAnswer (parts_of n file tunes))
+    abbrev ClashAnswer : ℕ → Spellings → Verdict → Type 0
+    ClashAnswer n spellings = Check ClashFails Apart (PartAnswer (parts_of n file spellings))
 
-    abbrev LengthFails : Tunes → Verdict → Type 0
-    LengthFails tunes r = (call method : ℕ) × (r ≡ Err (fault.CallLength call method)) × IsFirstWrong (FitsAll file tunes) (length file.calls) call × IsFirstWrong (λ m. is_for file call m ≡ true → Fits file tunes call m) (length file.methods) method
+    abbrev LengthFails : Spellings → Verdict → Type 0
+    LengthFails spellings r = (call method : ℕ) × (r ≡ Err (fault.CallLength call method)) × IsFirstWrong (FitsAll file spellings) (length file.calls) call × IsFirstWrong (λ m. is_for file call m ≡ true → Fits file spellings call m) (length file.methods) method
 
-    length_one : (tunes : Tunes) → IsOne (LengthFails tunes)
-    length_one tunes r s a b =
-        let calls : a.0 ≡ b.0 = one_first (FitsAll file tunes) (length file.calls) a.0 b.0 a.3 b.3 in
-        let there : IsFirstWrong (λ m. is_for file a.0 m ≡ true → Fits file tunes a.0 m) (length file.methods) b.1 = subst (λ (k : ℕ). IsFirstWrong (λ m. is_for file k m ≡ true → Fits file tunes k m) (length file.methods) b.1) (sym calls) b.4 in
-        a.2 ∙ ap₂ (λ x y. Err (fault.CallLength x y)) calls (one_first (λ m. is_for file a.0 m ≡ true → Fits file tunes a.0 m) (length file.methods) a.1 b.1 a.4 there) ∙ sym b.2
+    length_one : (spellings : Spellings) → IsOne (LengthFails spellings)
+    length_one spellings r s a b =
+        let calls : a.0 ≡ b.0 = one_first (FitsAll file spellings) (length file.calls) a.0 b.0 a.3 b.3 in
+        let there : IsFirstWrong (λ m. is_for file a.0 m ≡ true → Fits file spellings a.0 m) (length file.methods) b.1 = subst (λ (k : ℕ). IsFirstWrong (λ m. is_for file k m ≡ true → Fits file spellings k m) (length file.methods) b.1) (sym calls) b.4 in
+        a.2 ∙ ap₂ (λ x y. Err (fault.CallLength x y)) calls (one_first (λ m. is_for file a.0 m ≡ true → Fits file spellings a.0 m) (length file.methods) a.1 b.1 a.4 there) ∙ sym b.2
 
-    abbrev LengthAnswer : ℕ → Tunes → Verdict → Type 0
-    LengthAnswer n tunes = Check (LengthFails tunes) ((call : ℕ) → call < length file.calls → FitsAll file tunes call) (ClashAnswer n tunes)
+    abbrev LengthAnswer : ℕ → Spellings → Verdict → Type 0
+    LengthAnswer n spellings = Check (LengthFails spellings) ((call : ℕ) → call < length file.calls → FitsAll file spellings call) (ClashAnswer n spellings)
 
-    abbrev MarkAnswer : ℕ → Tunes → Verdict → Type 0
-    MarkAnswer n tunes = Check (FirstGives fault.Mark (λ i. MarkIsRight (mark_at file i)) (length file.calls)) ((i : ℕ) → i < length file.calls → MarkIsRight (mark_at file i)) (LengthAnswer n tunes)
+    abbrev MarkAnswer : ℕ → Spellings → Verdict → Type 0
+    MarkAnswer n spellings = Check (FirstGives fault.Mark (λ i. MarkIsRight (mark_at file i)) (length file.calls)) ((i : ℕ) → i < length file.calls → MarkIsRight (mark_at file i)) (LengthAnswer n spellings)
 
-    abbrev OverAnswer : ℕ → Tunes → Verdict → Type 0
-    OverAnswer n tunes = Check (FirstGives fault.Over (OverIsRight file) (length file.calls)) ((i : ℕ) → i < length file.calls → OverIsRight file i) (MarkAnswer n tunes)
+    abbrev OverAnswer : ℕ → Spellings → Verdict → Type 0
+    OverAnswer n spellings = Check (FirstGives fault.Over (OverIsRight file) (length file.calls)) ((i : ℕ) → i < length file.calls → OverIsRight file i) (MarkAnswer n spellings)
 
     abbrev CallNotations : ℕ → List (List Places) → Verdict → Type 0
     CallNotations n methods = Level (Unspelled (λ i why. fault.Notation (whose.Call i) why) n (call_texts file)) (AllZip (Spells n) (call_texts file)) (λ calls. OverAnswer n (record { methods = methods; calls = calls }))
@@ -224,20 +224,20 @@ module _ (one_list : OneList) (one_fault : OneFault) (never_both : NeverBoth) wh
     from_methods : (r : Verdict) (n : ℕ) (methods : List (List Places)) → MethodsSpell file n methods → CallNotations n methods r → FileAnswer r
     from_methods r n methods pass later = from_letters r n pass.before (inr (methods, pass.methods_spell, later))
 
-    from_calls : (r : Verdict) (n : ℕ) (tunes : Tunes) → CallsSpell file n tunes → OverAnswer n tunes r → FileAnswer r
-    from_calls r n tunes pass later = from_methods r n tunes.methods pass.before (inr (tunes.calls, pass.calls_spell, later))
+    from_calls : (r : Verdict) (n : ℕ) (spellings : Spellings) → CallsSpell file n spellings → OverAnswer n spellings r → FileAnswer r
+    from_calls r n spellings pass later = from_methods r n spellings.methods pass.before (inr (spellings.calls, pass.calls_spell, later))
 
-    from_overs : (r : Verdict) (n : ℕ) (tunes : Tunes) → OversPass file n tunes → MarkAnswer n tunes r → FileAnswer r
-    from_overs r n tunes pass later = from_calls r n tunes pass.before (inr (pass.overs, later))
+    from_overs : (r : Verdict) (n : ℕ) (spellings : Spellings) → OversPass file n spellings → MarkAnswer n spellings r → FileAnswer r
+    from_overs r n spellings pass later = from_calls r n spellings pass.before (inr (pass.overs, later))
 
-    from_marks : (r : Verdict) (n : ℕ) (tunes : Tunes) → MarksPass file n tunes → LengthAnswer n tunes r → FileAnswer r
-    from_marks r n tunes pass later = from_overs r n tunes pass.before (inr (pass.marks, later))
+    from_marks : (r : Verdict) (n : ℕ) (spellings : Spellings) → MarksPass file n spellings → LengthAnswer n spellings r → FileAnswer r
+    from_marks r n spellings pass later = from_overs r n spellings pass.before (inr (pass.marks, later))
 
-    from_lengths : (r : Verdict) (n : ℕ) (tunes : Tunes) → LengthsPass file n tunes → ClashAnswer n tunes r → FileAnswer r
-    from_lengths r n tunes pass later = from_marks r n tunes pass.before (inr (pass.fits, later))
+    from_lengths : (r : Verdict) (n : ℕ) (spellings : Spellings) → LengthsPass file n spellings → ClashAnswer n spellings r → FileAnswer r
+    from_lengths r n spellings pass later = from_marks r n spellings pass.before (inr (pass.fits, later))
 
     from_made : (r : Verdict) (p : ProblemParts) → Makes file p → PartAnswer p r → FileAnswer r
-    from_made r p makes later = from_lengths r makes.n makes.tunes makes.passes.before (inr (makes.passes.apart, subst (λ (q : ProblemParts). PartAnswer q r) makes.is later))
+    from_made r p makes later = from_lengths r makes.n makes.spellings makes.passes.before (inr (makes.passes.apart, subst (λ (q : ProblemParts). PartAnswer q r) makes.is later))
 
     -- a fault of the values is an answer of the checks
     fault_answers : (why : ProblemFault) → IsFileFault file why → FileAnswer (Err why)

@@ -11,7 +11,7 @@ use Rattle.cr_model.specs.Callings.{step_at}
 use Rattle.cr_model.specs.Checks.{IsFirstWrong}
 use Rattle.cr_model.specs.Right.{plain, LetterIsRight, LimitsAreRight, CountIsRight, MethodCountIsRight, bell_named, is_run, cell_at, FitsStage, IsNamedFirst, CellsAreRight, PatternIsRight, ComIsRight}
 use Rattle.cr_model.specs.Files.{FileParts}
-use Rattle.cr_model.specs.ProblemFiles.{Tunes, call_at, mark_at, is_for, tune_at, over_at, called_tune, OverIsRight, MarkIsRight, Fits, FitsAll, AreApart}
+use Rattle.cr_model.specs.ProblemFiles.{Spellings, call_at, mark_at, is_for, spelling_at, over_at, called_spelling, OverIsRight, MarkIsRight, Fits, FitsAll, AreApart}
 
 -- it holds, or does not
 abbrev pub Known : Type 0 → Type 0
@@ -101,14 +101,14 @@ known_mark mark = known_as _ (MarkIsRight mark)
     (known_and _ _ (known_le 97 mark) (known_and _ _ (known_le mark 122) (known_not _ (cases_eq mark plain))))
     (λ h. record { from = h.0; to = h.1.0; called = h.1.1 }) (λ r. (r.from, (r.to, r.called)))
 
-pub known_fit : (file : FileParts) (tunes : Tunes) (call method : ℕ) → Known (is_for file call method ≡ true → Fits file tunes call method)
-known_fit file tunes call method = known_then _ _ (known_true (is_for file call method))
-    (known_as _ (Fits file tunes call method)
-    (known_and _ _ (known_le (unwrap_or (over_at file call) (length (tune_at tunes.calls call))) (length (tune_at tunes.methods method))) (known_le (length (called_tune file tunes call method)) 128))
+pub known_fit : (file : FileParts) (spellings : Spellings) (call method : ℕ) → Known (is_for file call method ≡ true → Fits file spellings call method)
+known_fit file spellings call method = known_then _ _ (known_true (is_for file call method))
+    (known_as _ (Fits file spellings call method)
+    (known_and _ _ (known_le (unwrap_or (over_at file call) (length (spelling_at spellings.calls call))) (length (spelling_at spellings.methods method))) (known_le (length (called_spelling file spellings call method)) 128))
     (λ h. record { over = h.0; short = h.1 }) (λ r. (r.over, r.short)))
 
-pub known_fits : (file : FileParts) (tunes : Tunes) (call : ℕ) → Known (FitsAll file tunes call)
-known_fits file tunes call = known_each (λ method. is_for file call method ≡ true → Fits file tunes call method) (known_fit file tunes call) (length file.methods)
+pub known_fits : (file : FileParts) (spellings : Spellings) (call : ℕ) → Known (FitsAll file spellings call)
+known_fits file spellings call = known_each (λ method. is_for file call method ≡ true → Fits file spellings call method) (known_fit file spellings call) (length file.methods)
 
 pub known_apart : (file : FileParts) (first second : ℕ) → Known (AreApart file first second)
 known_apart file first second = known_then _ _ (cases_eq (mark_at file first) (mark_at file second))

@@ -26,7 +26,7 @@ use Rattle.cr_model.specs.Notation.{Spells}
 use Rattle.cr_model.specs.NotationFaults.{FirstFault}
 use Rattle.cr_model.specs.Keys.{key_faults}
 use Rattle.cr_model.specs.Files.{FileParts, file_of, Reads, IsFile}
-use Rattle.cr_model.specs.ProblemFiles.{Tunes, letters_of, method_texts, call_texts, mark_at, is_for, OverIsRight, MarkIsRight, Fits, FitsAll, AreApart, parts_of, StagePasses, LettersPass, MethodsSpell, CallsSpell, OversPass, MarksPass, LengthsPass, CallsPass, Makes, ProblemFile, IsSpelled, IsFirstUnspelled, IsFileFault, FirstProblemFault}
+use Rattle.cr_model.specs.ProblemFiles.{Spellings, letters_of, method_texts, call_texts, mark_at, is_for, OverIsRight, MarkIsRight, Fits, FitsAll, AreApart, parts_of, StagePasses, LettersPass, MethodsSpell, CallsSpell, OversPass, MarksPass, LengthsPass, CallsPass, Makes, ProblemFile, IsSpelled, IsFirstUnspelled, IsFileFault, FirstProblemFault}
 use Rattle.cr_read.proofs.LeadsRight.{leads_right, letters_right, later_fault, fault_made}
 use Rattle.cr_read.specs.Reading.{file_fault}
 use Rattle.cr_read.proofs.MethodsThere.{some_methods}
@@ -111,24 +111,24 @@ module _ (p : ProblemParts) (letters : LettersAreRight p.letters) (leads : Leads
   )
 
 -- the texts spell changes, or one is the first that does not
-spelled_or : TakenOrRefused → (n : ℕ) (texts : List (List ℕ)) → ((tunes : List (List Places)) × AllZip (Spells n) texts tunes) ⊎ ((i : ℕ) × (why : NotationFault) × IsFirstUnspelled n texts i why)
+spelled_or : TakenOrRefused → (n : ℕ) (texts : List (List ℕ)) → ((spellings : List (List Places)) × AllZip (Spells n) texts spellings) ⊎ ((i : ℕ) × (why : NotationFault) × IsFirstUnspelled n texts i why)
 spelled_or taken n [] = inl ([], tt)
 spelled_or taken n (text ∷ texts) = elim (taken n text) [
   | inl spelled ↦ elim (spelled_or taken n texts) [
-    | inl tunes ↦ inl (spelled.0 ∷ tunes.0, (spelled.1, tunes.1))
+    | inl spellings ↦ inl (spelled.0 ∷ spellings.0, (spelled.1, spellings.1))
     | inr first ↦ inr (suc first.0, first.1, later n text texts first.0 first.1 spelled first.2)
   ]
   | inr fault ↦ inr (0, fault.0, record { within = omega arith; before = λ j h. absurd (omega arith); wrong = fault.1 })
 ]
 
 module _ (file : FileParts) (some : 1 ≤ length file.methods) where
-  after_calls : (n : ℕ) (tunes : Tunes) → CallsPass file n tunes → Answer file
-  after_calls n tunes h =
+  after_calls : (n : ℕ) (spellings : Spellings) → CallsPass file n spellings → Answer file
+  after_calls n spellings h =
       let stage = h.before.before.before.before.before.before.before in
-      let makes : Makes file (parts_of n file tunes) = record { n = n; tunes = tunes; passes = h; is = refl } in
-      let p = parts_of n file tunes in
-      let letters : LettersAreRight p.letters = letters_right file n tunes h some in
-      let leads : LeadsAreRight p.stage (length p.letters) p.leads = leads_right file n tunes h some in
+      let makes : Makes file (parts_of n file spellings) = record { n = n; spellings = spellings; passes = h; is = refl } in
+      let p = parts_of n file spellings in
+      let letters : LettersAreRight p.letters = letters_right file n spellings h some in
+      let leads : LeadsAreRight p.stage (length p.letters) p.leads = leads_right file n spellings h some in
       elim (first_failure (checks p) (known_parts p letters leads)) [
         | inl all ↦ inl (p, makes, record { stage_from = stage.from; stage_to = stage.to; checks = all })
         | inr first ↦
@@ -136,34 +136,34 @@ module _ (file : FileParts) (some : 1 ≤ length file.methods) where
             inr (file_fault first.0, fault_made file p first.0 makes is (later_fault p first.0 letters leads is))
       ]
 
-  after_lengths : (n : ℕ) (tunes : Tunes) → LengthsPass file n tunes → Answer file
-  after_lengths n tunes h = elim (first_wrong (λ j. (i : ℕ) → i < j → AreApart file i j) (λ j. known_each (λ i. AreApart file i j) (λ i. known_apart file i j) j) (length file.calls)) [
-    | inl all ↦ after_calls n tunes (record { before = h; apart = all })
+  after_lengths : (n : ℕ) (spellings : Spellings) → LengthsPass file n spellings → Answer file
+  after_lengths n spellings h = elim (first_wrong (λ j. (i : ℕ) → i < j → AreApart file i j) (λ j. known_each (λ i. AreApart file i j) (λ i. known_apart file i j) j) (length file.calls)) [
+    | inl all ↦ after_calls n spellings (record { before = h; apart = all })
     | inr second ↦ elim (first_wrong (λ i. AreApart file i second.0) (λ i. known_apart file i second.0) second.0) [
       | inl all ↦ absurd (second.1.wrong all)
-      | inr first ↦ inr (fault.Clash first.0 second.0, (n, tunes, h, second.1, first.1))
+      | inr first ↦ inr (fault.Clash first.0 second.0, (n, spellings, h, second.1, first.1))
     ]
   ]
 
-  after_marks : (n : ℕ) (tunes : Tunes) → MarksPass file n tunes → Answer file
-  after_marks n tunes h = elim (first_wrong (FitsAll file tunes) (known_fits file tunes) (length file.calls)) [
-    | inl all ↦ after_lengths n tunes (record { before = h; fits = all })
-    | inr call ↦ elim (first_wrong (λ m. is_for file call.0 m ≡ true → Fits file tunes call.0 m) (known_fit file tunes call.0) (length file.methods)) [
+  after_marks : (n : ℕ) (spellings : Spellings) → MarksPass file n spellings → Answer file
+  after_marks n spellings h = elim (first_wrong (FitsAll file spellings) (known_fits file spellings) (length file.calls)) [
+    | inl all ↦ after_lengths n spellings (record { before = h; fits = all })
+    | inr call ↦ elim (first_wrong (λ m. is_for file call.0 m ≡ true → Fits file spellings call.0 m) (known_fit file spellings call.0) (length file.methods)) [
       | inl all ↦ absurd (call.1.wrong all)
-      | inr method ↦ inr (fault.CallLength call.0 method.0, (n, tunes, h, call.1, method.1))
+      | inr method ↦ inr (fault.CallLength call.0 method.0, (n, spellings, h, call.1, method.1))
     ]
   ]
 
-  after_overs : (n : ℕ) (tunes : Tunes) → OversPass file n tunes → Answer file
-  after_overs n tunes h = elim (first_wrong (λ i. MarkIsRight (mark_at file i)) (λ i. known_mark (mark_at file i)) (length file.calls)) [
-    | inl all ↦ after_marks n tunes (record { before = h; marks = all })
-    | inr first ↦ inr (fault.Mark first.0, (n, tunes, h, first.1))
+  after_overs : (n : ℕ) (spellings : Spellings) → OversPass file n spellings → Answer file
+  after_overs n spellings h = elim (first_wrong (λ i. MarkIsRight (mark_at file i)) (λ i. known_mark (mark_at file i)) (length file.calls)) [
+    | inl all ↦ after_marks n spellings (record { before = h; marks = all })
+    | inr first ↦ inr (fault.Mark first.0, (n, spellings, h, first.1))
   ]
 
-  after_notations : (n : ℕ) (tunes : Tunes) → CallsSpell file n tunes → Answer file
-  after_notations n tunes h = elim (first_wrong (OverIsRight file) (known_over file) (length file.calls)) [
-    | inl all ↦ after_overs n tunes (record { before = h; overs = all })
-    | inr first ↦ inr (fault.Over first.0, (n, tunes, h, first.1))
+  after_notations : (n : ℕ) (spellings : Spellings) → CallsSpell file n spellings → Answer file
+  after_notations n spellings h = elim (first_wrong (OverIsRight file) (known_over file) (length file.calls)) [
+    | inl all ↦ after_overs n spellings (record { before = h; overs = all })
+    | inr first ↦ inr (fault.Over first.0, (n, spellings, h, first.1))
   ]
 
   module _ (taken : TakenOrRefused) where

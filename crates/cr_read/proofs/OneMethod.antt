@@ -7,7 +7,7 @@ use Rattle.cr_model.specs.declared.query.Com.{Com}
 use Rattle.cr_model.specs.Notation.{Spells}
 use Rattle.cr_model.specs.Right.{LetterIsRight}
 use Rattle.cr_model.specs.Files.{FileParts, Limited, CallText}
-use Rattle.cr_model.specs.ProblemFiles.{Tunes, letters_of, mark_at, MarkIsRight, OverIsRight, LettersPass, MethodsSpell, CallsSpell, MarksPass}
+use Rattle.cr_model.specs.ProblemFiles.{Spellings, letters_of, mark_at, MarkIsRight, OverIsRight, LettersPass, MethodsSpell, CallsSpell, MarksPass}
 use Rattle.cr_notation.specs.Reading.{read_all}
 use Rattle.cr_read.proofs.ByExample.{each, spelled}
 
@@ -46,25 +46,25 @@ letters_pass n from to notation calls asked = record {
   );
 }
 
-abbrev pub tunes_of_one : List Places → List (List Places) → Tunes
-tunes_of_one tune others = record { methods = tune ∷ []; calls = others }
+abbrev pub spellings_of_one : List Places → List (List Places) → Spellings
+spellings_of_one spelling others = record { methods = spelling ∷ []; calls = others }
 
-module _ (n : ℕ) (from : 3 ≤ n) (to : n ≤ 16) (notation : List ℕ) (tune : List Places) (is : read_all n notation ≡ Ok tune)
+module _ (n : ℕ) (from : 3 ≤ n) (to : n ≤ 16) (notation : List ℕ) (spelling : List Places) (is : read_all n notation ≡ Ok spelling)
     (calls : List CallText) (others : List (List Places)) (asked : Asked) where
   -- its method spells changes
-  pub method_spells : MethodsSpell (file_of_one n notation calls asked) n (tune ∷ [])
+  pub method_spells : MethodsSpell (file_of_one n notation calls asked) n (spelling ∷ [])
   method_spells = record {
     before = letters_pass n from to notation calls asked;
-    methods_spell = (spelled n notation tune is, tt);
+    methods_spell = (spelled n notation spelling is, tt);
   }
 
   module _ (all : AllZip (Spells n) (map (λ call. call.notation) calls) others) where
     -- and so do its calls
-    pub calls_spell : CallsSpell (file_of_one n notation calls asked) n (tunes_of_one tune others)
+    pub calls_spell : CallsSpell (file_of_one n notation calls asked) n (spellings_of_one spelling others)
     calls_spell = record { before = method_spells; calls_spell = all }
 
     -- with marks that are right
     pub marks_pass : ((call : ℕ) → call < length calls → OverIsRight (file_of_one n notation calls asked) call)
         → ((call : ℕ) → call < length calls → MarkIsRight (mark_at (file_of_one n notation calls asked) call))
-        → MarksPass (file_of_one n notation calls asked) n (tunes_of_one tune others)
+        → MarksPass (file_of_one n notation calls asked) n (spellings_of_one spelling others)
     marks_pass overs marks = record { before = record { before = calls_spell; overs = overs }; marks = marks }

@@ -22,42 +22,42 @@ pub call_text_is : (calls : List CallText) (i : ℕ) (call : CallText) → i < l
 call_text_is calls i call h e = ap (λ c. c.notation) e ∙ sym (get_or-map (λ c. c.notation) calls i call [] h)
 
 -- one more text that spells changes
-pub one_more : (n : ℕ) (texts : List (List ℕ)) (i : ℕ) (tunes : List (List Places)) (text : List ℕ) (tune : List Places)
-    → i < length texts → AllZip (Spells n) (take i texts) tunes → text ≡ get_or texts i [] → Spells n text tune → AllZip (Spells n) (take (i + 1) texts) (tunes ++ tune ∷ [])
-one_more n texts i tunes text tune h all is spells =
-    subst (λ (front : List (List ℕ)). AllZip (Spells n) front (tunes ++ tune ∷ [])) (sym (take_more texts i [] h))
-    (all_zipped_more (Spells n) (take i texts) tunes (get_or texts i []) tune all (subst (λ (t : List ℕ). Spells n t tune) is spells))
+pub one_more : (n : ℕ) (texts : List (List ℕ)) (i : ℕ) (spellings : List (List Places)) (text : List ℕ) (spelling : List Places)
+    → i < length texts → AllZip (Spells n) (take i texts) spellings → text ≡ get_or texts i [] → Spells n text spelling → AllZip (Spells n) (take (i + 1) texts) (spellings ++ spelling ∷ [])
+one_more n texts i spellings text spelling h all is spells =
+    subst (λ (front : List (List ℕ)). AllZip (Spells n) front (spellings ++ spelling ∷ [])) (sym (take_more texts i [] h))
+    (all_zipped_more (Spells n) (take i texts) spellings (get_or texts i []) spelling all (subst (λ (t : List ℕ). Spells n t spelling) is spells))
 
-spelled_at : (n : ℕ) (texts : List (List ℕ)) (tunes : List (List Places)) → AllZip (Spells n) texts tunes → (j : ℕ) → j < length texts → IsSpelled n (get_or texts j [])
+spelled_at : (n : ℕ) (texts : List (List ℕ)) (spellings : List (List Places)) → AllZip (Spells n) texts spellings → (j : ℕ) → j < length texts → IsSpelled n (get_or texts j [])
 spelled_at n [] [] all j h = absurd (omega arith)
-spelled_at n [] (tune ∷ tunes) all j h = absurd all
+spelled_at n [] (spelling ∷ spellings) all j h = absurd all
 spelled_at n (text ∷ texts) [] all j h = absurd all
-spelled_at n (text ∷ texts) (tune ∷ tunes) all zero h = (tune, all.0)
-spelled_at n (text ∷ texts) (tune ∷ tunes) all (suc j) h = spelled_at n texts tunes all.1 j (omega arith)
+spelled_at n (text ∷ texts) (spelling ∷ spellings) all zero h = (spelling, all.0)
+spelled_at n (text ∷ texts) (spelling ∷ spellings) all (suc j) h = spelled_at n texts spellings all.1 j (omega arith)
 
 -- the texts so far spell changes, and the next one has a fault
-first_unspelled : (n : ℕ) (texts : List (List ℕ)) (i : ℕ) (tunes : List (List Places)) (text : List ℕ) (why : NotationFault)
-    → i < length texts → AllZip (Spells n) (take i texts) tunes → text ≡ get_or texts i [] → FirstFault n text why → IsFirstUnspelled n texts i why
-first_unspelled n texts i tunes text why h all is wrong = record {
+first_unspelled : (n : ℕ) (texts : List (List ℕ)) (i : ℕ) (spellings : List (List Places)) (text : List ℕ) (why : NotationFault)
+    → i < length texts → AllZip (Spells n) (take i texts) spellings → text ≡ get_or texts i [] → FirstFault n text why → IsFirstUnspelled n texts i why
+first_unspelled n texts i spellings text why h all is wrong = record {
   within = h;
   before = λ j low.
       let long : length (take i texts) ≡ i = length-take-le i texts (omega arith) in
-      subst (λ (t : List ℕ). IsSpelled n t) (get_or-take i texts j [] low) (spelled_at n (take i texts) tunes all j (omega arith));
+      subst (λ (t : List ℕ). IsSpelled n t) (get_or-take i texts j [] low) (spelled_at n (take i texts) spellings all j (omega arith));
   wrong = subst (λ (t : List ℕ). FirstFault n t why) is wrong;
 }
 
-pub method_refused : (file : FileParts) (n i : ℕ) (tunes : List (List Places)) (text : List ℕ) (why : ProblemFault) → LettersPass file n
-    → i < length file.methods → AllZip (Spells n) (take i (method_texts file)) tunes → text ≡ get_or (method_texts file) i []
+pub method_refused : (file : FileParts) (n i : ℕ) (spellings : List (List Places)) (text : List ℕ) (why : ProblemFault) → LettersPass file n
+    → i < length file.methods → AllZip (Spells n) (take i (method_texts file)) spellings → text ≡ get_or (method_texts file) i []
     → ((why ≡ fault.NoMemory) ⊎ ((first : NotationFault) × (why ≡ fault.Notation (whose.Method i) first) × FirstFault n text first)) → Refused file why
-method_refused file n i tunes text why pass h all is (inl none) = rw none tt
-method_refused file n i tunes text why pass h all is (inr some) =
+method_refused file n i spellings text why pass h all is (inl none) = rw none tt
+method_refused file n i spellings text why pass h all is (inr some) =
     let within : i < length (method_texts file) = rw (length-map file.methods (λ m. m.notation)) h in
-    subst (Refused file) (sym some.1) (n, pass, first_unspelled n (method_texts file) i tunes text some.0 within all is some.2)
+    subst (Refused file) (sym some.1) (n, pass, first_unspelled n (method_texts file) i spellings text some.0 within all is some.2)
 
-pub call_refused : (file : FileParts) (n i : ℕ) (methods tunes : List (List Places)) (text : List ℕ) (why : ProblemFault) → MethodsSpell file n methods
-    → i < length file.calls → AllZip (Spells n) (take i (call_texts file)) tunes → text ≡ get_or (call_texts file) i []
+pub call_refused : (file : FileParts) (n i : ℕ) (methods spellings : List (List Places)) (text : List ℕ) (why : ProblemFault) → MethodsSpell file n methods
+    → i < length file.calls → AllZip (Spells n) (take i (call_texts file)) spellings → text ≡ get_or (call_texts file) i []
     → ((why ≡ fault.NoMemory) ⊎ ((first : NotationFault) × (why ≡ fault.Notation (whose.Call i) first) × FirstFault n text first)) → Refused file why
-call_refused file n i methods tunes text why pass h all is (inl none) = rw none tt
-call_refused file n i methods tunes text why pass h all is (inr some) =
+call_refused file n i methods spellings text why pass h all is (inl none) = rw none tt
+call_refused file n i methods spellings text why pass h all is (inr some) =
     let within : i < length (call_texts file) = rw (length-map file.calls (λ c. c.notation)) h in
-    subst (Refused file) (sym some.1) (n, methods, pass, first_unspelled n (call_texts file) i tunes text some.0 within all is some.2)
+    subst (Refused file) (sym some.1) (n, methods, pass, first_unspelled n (call_texts file) i spellings text some.0 within all is some.2)

@@ -6,7 +6,7 @@ use Rattle.cr_row.specs.Rows.{Places}
 use Rattle.cr_model.specs.Examples.{on_four}
 use Rattle.cr_model.specs.Right.{LetterIsRight}
 use Rattle.cr_model.specs.Files.{FileParts}
-use Rattle.cr_model.specs.ProblemFiles.{Tunes, letters_of, mark_at, MarkIsRight, OverIsRight, Suits, FitsAll, AreApart, IsApart, LettersPass, CallsSpell, MarksPass, CallsPass}
+use Rattle.cr_model.specs.ProblemFiles.{Spellings, letters_of, mark_at, MarkIsRight, OverIsRight, Suits, FitsAll, AreApart, IsApart, LettersPass, CallsSpell, MarksPass, CallsPass}
 use Rattle.cr_notation.specs.Reading.{read_all, read_from, byte_step, step, place_step, cross_step, dot_step, comma_step, end_step, closed}
 use Rattle.cr_read.proofs.ByExample.{each, spelled}
 
@@ -40,8 +40,8 @@ first_call = map on_four ((1 ∷ 2 ∷ []) ∷ [])
 abbrev second_call : List Places
 second_call = map on_four ((1 ∷ 2 ∷ 3 ∷ 4 ∷ []) ∷ [])
 
-abbrev pub tunes : Tunes
-tunes = record { methods = first_method ∷ second_method ∷ []; calls = first_call ∷ second_call ∷ [] }
+abbrev pub spellings : Spellings
+spellings = record { methods = first_method ∷ second_method ∷ []; calls = first_call ∷ second_call ∷ [] }
 
 texts_read : (read_all 4 (codes "x14") ≡ Ok first_method) × (read_all 4 (codes "14x") ≡ Ok second_method)
     × (read_all 4 (codes "12") ≡ Ok first_call) × (read_all 4 (codes "1234") ≡ Ok second_call)
@@ -63,13 +63,13 @@ module _ (methods : Option (List ℕ)) where
     );
   }
 
-  spell : CallsSpell (file methods) 4 tunes
+  spell : CallsSpell (file methods) 4 spellings
   spell = record {
     before = record { before = letters; methods_spell = (spelled 4 _ first_method texts_read.0, (spelled 4 _ second_method texts_read.1, tt)) };
     calls_spell = (spelled 4 _ first_call texts_read.2, (spelled 4 _ second_call texts_read.3, tt));
   }
 
-  marks : MarksPass (file methods) 4 tunes
+  marks : MarksPass (file methods) 4 spellings
   marks = record {
     before = record { before = spell; overs = each (OverIsRight (file methods)) 2 ((tt, tt), tt) };
     marks = each (λ call. MarkIsRight (mark_at (file methods) call)) 2 (
@@ -78,13 +78,13 @@ module _ (methods : Option (List ℕ)) where
     );
   }
 
-  fits : (call : ℕ) → call < 2 → FitsAll (file methods) tunes call
-  fits = each (FitsAll (file methods) tunes) 2 (
-    (tt, each (Suits (file methods) tunes 0) 2 ((tt, λ named. record { over = omega arith; short = omega arith }), λ named. record { over = omega arith; short = omega arith })),
-    each (Suits (file methods) tunes 1) 2 ((tt, λ named. absurd (false≢true named)), λ named. record { over = omega arith; short = omega arith }),
+  fits : (call : ℕ) → call < 2 → FitsAll (file methods) spellings call
+  fits = each (FitsAll (file methods) spellings) 2 (
+    (tt, each (Suits (file methods) spellings 0) 2 ((tt, λ named. record { over = omega arith; short = omega arith }), λ named. record { over = omega arith; short = omega arith })),
+    each (Suits (file methods) spellings 1) 2 ((tt, λ named. absurd (false≢true named)), λ named. record { over = omega arith; short = omega arith }),
   )
 
-  pub steps_pass : CallsPass (file methods) 4 tunes
+  pub steps_pass : CallsPass (file methods) 4 spellings
   steps_pass = record {
     before = record { before = marks; fits = fits };
     apart = each (IsApart (file methods)) 2 (

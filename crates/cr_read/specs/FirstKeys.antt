@@ -7,12 +7,12 @@ use Rattle.cr_model.specs.Keys as keys
 use Rattle.cr_model.specs.Keys.{key_fault, text_at, members_in}
 use Rattle.cr_read.specs.declared.key_fault.KeyFault.{KeyFault}
 use Rattle.cr_read.specs.declared.key_fault.KeyFault.TheVariants.{At, NoMemory}
-use Rattle.cr_read.specs.declared.parts.Kind.{Kind}
-use Rattle.cr_read.specs.declared.parts.Kind.TheVariants as kind
-use Rattle.cr_read.specs.declared.parts.Key.{Key}
-use Rattle.cr_read.specs.declared.parts.Shape.{Shape}
-use Rattle.cr_read.specs.declared.parts.Shape.TheVariants as shape
-use Rattle.cr_read.specs.declared.parts.Part.{Part}
+use Rattle.cr_read.specs.declared.key_table.Kind.{Kind}
+use Rattle.cr_read.specs.declared.key_table.Kind.TheVariants as kind
+use Rattle.cr_read.specs.declared.key_table.Key.{Key}
+use Rattle.cr_read.specs.declared.key_table.Shape.{Shape}
+use Rattle.cr_read.specs.declared.key_table.Shape.TheVariants as shape
+use Rattle.cr_read.specs.declared.key_table.Part.{Part}
 
 -- the path is the first of these. Want of memory says nothing
 abbrev pub IsFirst : List (List ℕ) → KeyFault → Type 0

@@ -7,17 +7,17 @@ use Rattle.cr_model.specs.declared.fault.PartFault.TheVariants as part
 use Rattle.cr_model.specs.Files.{FileParts, Reads}
 use Rattle.cr_model.specs.Keys.{key_faults}
 use Rattle.toml.specs.Data.{Members}
-use Rattle.cr_model.specs.ProblemFiles.{Tunes, IsFileFault, FirstProblemFault}
+use Rattle.cr_model.specs.ProblemFiles.{Spellings, IsFileFault, FirstProblemFault}
 
 -- the fault is the file's first, or want of memory
 abbrev pub Refused : FileParts → ProblemFault → Type 0
 Refused file fault.NoMemory = Unit {0}
 Refused file why = IsFileFault file why
 
--- a tune for each method and for each call
-pub record IsTuned (file : FileParts) (tunes : Tunes) : Type 0 where
-  pub methods : length tunes.methods ≡ length file.methods
-  pub calls : length tunes.calls ≡ length file.calls
+-- a spelling for each method and for each call
+pub record HasSpellings (file : FileParts) (spellings : Spellings) : Type 0 where
+  pub methods : length spellings.methods ≡ length file.methods
+  pub calls : length spellings.calls ≡ length file.calls
 
 -- the fault is none of the letters or the leads, which are right in every file
 abbrev pub IsLater : PartFault → Type 0

@@ -3,16 +3,16 @@
 ghost use Rattle.std.specs.Prelude.{◌≡◌, ◌≢◌, ℕ, ◌<◌, ◌≤◌, ◌↔◌, ◌+◌, ◌-◌, true, length, get_or, IsTrue, IfSome};
 ghost use Rattle.std.specs.Prelude.{MatchOption, MatchResult, unwrap_or};
 ghost use Rattle.cr_model.specs.Checks.{IsFirstWrong, TellsFirst};
-ghost use Rattle.cr_model.specs.ProblemFiles.{letters_of, call_at, mark_at, is_named, is_for, tune_at, over_at};
-ghost use Rattle.cr_model.specs.ProblemFiles.{called_tune, OverIsRight, MarkIsRight, Fits, FitsAll, AreApart};
+ghost use Rattle.cr_model.specs.ProblemFiles.{letters_of, call_at, mark_at, is_named, is_for, spelling_at, over_at};
+ghost use Rattle.cr_model.specs.ProblemFiles.{called_spelling, OverIsRight, MarkIsRight, Fits, FitsAll, AreApart};
 ghost use Rattle.cr_model.specs.ProblemFiles.{Suits, ShareNoMethod, IsApart};
 ghost use Rattle.cr_model.specs.ProblemFiles.{CallsSpell, CallsPass, IsFileFault};
-ghost use Rattle.cr_read.specs.Reading.{IsTuned};
+ghost use Rattle.cr_read.specs.Reading.{HasSpellings};
 
 use crate::file_parts::{CallText, File};
 use crate::keys::stands_in;
 use crate::letters::byte_of;
-use crate::tunes::{Tune, Tunes};
+use crate::spellings::{Spelling, Spellings};
 use cr_model::ProblemFault;
 use cr_model::limits::MOST_LEAD_CHANGES;
 use cr_row::Change;
@@ -104,67 +104,67 @@ fn wrong_mark(file: &File) -> Option<u64>
     None
 }
 
-/// The changes of a tune, by its index.
-#[tactic(auto, using(crate::proofs::CallFacts::tune_is))]
-pub fn tune_changes(tunes: &[Tune], index: usize) -> &[Change]
-    requires { index < length tunes.now }
-    ensures { result.now ≡ tune_at tunes.now index }
+/// The changes of a spelling, by its index.
+#[tactic(auto, using(crate::proofs::CallFacts::spelling_is))]
+pub fn changes_spelled(spellings: &[Spelling], index: usize) -> &[Change]
+    requires { index < length spellings.now }
+    ensures { result.now ≡ spelling_at spellings.now index }
 {
-    let tune = &tunes[index];
-    tune.changes.as_slice()
+    let spelling = &spellings[index];
+    spelling.changes.as_slice()
 }
 
 /// How many changes a call replaces.
-pub fn replaced(file: &File, tunes: &Tunes, call: usize) -> u64
+pub fn replaced(file: &File, spellings: &Spellings, call: usize) -> u64
     requires known { call < length file.now.calls }
-    requires tuned { IsTuned file.now tunes.now }
-    ensures { result ≡ unwrap_or (over_at file.now call) (length (tune_at tunes.now.calls call)) }
+    requires has_spellings { HasSpellings file.now spellings.now }
+    ensures { result ≡ unwrap_or (over_at file.now call) (length (spelling_at spellings.now.calls call)) }
 {
     match over_of(file, call) {
         Some(over) => over.unsigned_abs(),
-        None => tune_changes(&tunes.calls, call).len() as u64,
+        None => changes_spelled(&spellings.calls, call).len() as u64,
     }
 }
 
 // Whether a call replaces no more changes than a method has, and gives a lead of at most 128.
 #[tactic(auto, using(crate::proofs::CallFacts::called_length))]
-fn fits(file: &File, tunes: &Tunes, call: usize, method: usize) -> bool
+fn fits(file: &File, spellings: &Spellings, call: usize, method: usize) -> bool
     requires known { call < length file.now.calls }
     requires there { method < length file.now.methods }
-    requires tuned { IsTuned file.now tunes.now }
-    ensures { IsTrue result ↔ Fits file.now tunes.now call method }
+    requires has_spellings { HasSpellings file.now spellings.now }
+    ensures { IsTrue result ↔ Fits file.now spellings.now call method }
 {
-    let over = replaced(file, tunes, call);
-    let rung = tune_changes(&tunes.methods, method).len() as u64;
-    let added = tune_changes(&tunes.calls, call).len() as u64;
+    let over = replaced(file, spellings, call);
+    let rung = changes_spelled(&spellings.methods, method).len() as u64;
+    let added = changes_spelled(&spellings.calls, call).len() as u64;
     let most = MOST_LEAD_CHANGES as u64;
     over <= rung && added <= most && rung - over <= most - added
 }
 
 // Whether a call fits a method, if it is for it.
-fn suits(file: &File, letters: &[u8], tunes: &Tunes, call: usize, method: usize) -> bool
+fn suits(file: &File, letters: &[u8], spellings: &Spellings, call: usize, method: usize) -> bool
     requires is { letters.now ≡ letters_of file.now }
     requires known { call < length file.now.calls }
     requires there { method < length file.now.methods }
-    requires tuned { IsTuned file.now tunes.now }
-    ensures { IsTrue result ↔ Suits file.now tunes.now call method }
+    requires has_spellings { HasSpellings file.now spellings.now }
+    ensures { IsTrue result ↔ Suits file.now spellings.now call method }
 {
     if is_for(file, letters, call, method) {
-        fits(file, tunes, call, method)
+        fits(file, spellings, call, method)
     } else {
         true
     }
 }
 
 // The first method that a call is for and does not fit.
-fn wrong_method(file: &File, letters: &[u8], tunes: &Tunes, call: usize) -> Option<u64>
+fn wrong_method(file: &File, letters: &[u8], spellings: &Spellings, call: usize) -> Option<u64>
     requires is { letters.now ≡ letters_of file.now }
     requires known { call < length file.now.calls }
-    requires tuned { IsTuned file.now tunes.now }
-    ensures { TellsFirst (Suits file.now tunes.now call) (length file.now.methods) result }
+    requires has_spellings { HasSpellings file.now spellings.now }
+    ensures { TellsFirst (Suits file.now spellings.now call) (length file.now.methods) result }
 {
     for method in 0..file.method_count() {
-        if !suits(file, letters, tunes, call, method) {
+        if !suits(file, letters, spellings, call, method) {
             return Some(method as u64);
         }
     }
@@ -172,15 +172,15 @@ fn wrong_method(file: &File, letters: &[u8], tunes: &Tunes, call: usize) -> Opti
 }
 
 // The first call that does not fit, and the first method that it does not fit.
-fn wrong_length(file: &File, letters: &[u8], tunes: &Tunes) -> Option<(u64, u64)>
+fn wrong_length(file: &File, letters: &[u8], spellings: &Spellings) -> Option<(u64, u64)>
     requires is { letters.now ≡ letters_of file.now }
-    requires tuned { IsTuned file.now tunes.now }
-    ensures { MatchOption result ((call : ℕ) → call < length file.now.calls → FitsAll file.now tunes.now call)
-        (λ p. IsFirstWrong (FitsAll file.now tunes.now) (length file.now.calls) p.0
-        × IsFirstWrong (Suits file.now tunes.now p.0) (length file.now.methods) p.1) }
+    requires has_spellings { HasSpellings file.now spellings.now }
+    ensures { MatchOption result ((call : ℕ) → call < length file.now.calls → FitsAll file.now spellings.now call)
+        (λ p. IsFirstWrong (FitsAll file.now spellings.now) (length file.now.calls) p.0
+        × IsFirstWrong (Suits file.now spellings.now p.0) (length file.now.methods) p.1) }
 {
     for call in 0..file.call_count() {
-        if let Some(method) = wrong_method(file, letters, tunes, call) {
+        if let Some(method) = wrong_method(file, letters, spellings, call) {
             return Some((call as u64, method));
         }
     }
@@ -246,11 +246,11 @@ fn clash(file: &File, letters: &[u8]) -> Option<(u64, u64)>
 }
 
 /// Checks what the calls replace, then their marks, then their lengths, then that no two clash.
-pub fn check_calls(file: &File, letters: &[u8], tunes: &Tunes) -> Result<(), ProblemFault>
+pub fn check_calls(file: &File, letters: &[u8], spellings: &Spellings) -> Result<(), ProblemFault>
     requires is { letters.now ≡ letters_of file.now }
-    requires tuned { IsTuned file.now tunes.now }
-    ensures { (n : ℕ) → CallsSpell file.now n tunes.now →
-        MatchResult result (λ _. CallsPass file.now n tunes.now) (IsFileFault file.now) }
+    requires has_spellings { HasSpellings file.now spellings.now }
+    ensures { (n : ℕ) → CallsSpell file.now n spellings.now →
+        MatchResult result (λ _. CallsPass file.now n spellings.now) (IsFileFault file.now) }
 {
     if let Some(call) = wrong_over(file) {
         return Err(ProblemFault::Over(call));
@@ -258,7 +258,7 @@ pub fn check_calls(file: &File, letters: &[u8], tunes: &Tunes) -> Result<(), Pro
     if let Some(call) = wrong_mark(file) {
         return Err(ProblemFault::Mark(call));
     }
-    if let Some((call, method)) = wrong_length(file, letters, tunes) {
+    if let Some((call, method)) = wrong_length(file, letters, spellings) {
         return Err(ProblemFault::CallLength(call, method));
     }
     if let Some((first, second)) = clash(file, letters) {

@@ -13,7 +13,7 @@ ghost use Rattle.cr_model.specs.Keys.{written_letters};
 ghost use Rattle.cr_read.specs.FirstKeys.{Checks, letters_in, kind_of, key_of, part_of, known_faults};
 
 use crate::key_fault::KeyFault;
-use crate::parts::{Key, Kind, PARTS, Part, STAGE, Shape};
+use crate::key_table::{Key, Kind, PARTS, Part, STAGE, Shape};
 use crate::values::{found, items_at, items_of, text_found};
 use cr_model::KeyPath;
 use std::alloc::{AllocError, Global};

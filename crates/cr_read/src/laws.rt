@@ -4,7 +4,7 @@ ghost use Rattle.std.specs.Prelude.{◌≡◌, ◌⊎◌, ◌↔◌, ◌≤◌, 
 ghost use Rattle.cr_model.specs.Problems.{LeadParts, ProblemParts};
 ghost use Rattle.cr_model.specs.Right.{LeadsAreRight};
 ghost use Rattle.cr_model.specs.Files.{FileParts};
-ghost use Rattle.cr_model.specs.ProblemFiles.{Tunes, CallsPass, letters_of, leads_of, ProblemFile, FirstProblemFault};
+ghost use Rattle.cr_model.specs.ProblemFiles.{Spellings, CallsPass, letters_of, leads_of, ProblemFile, FirstProblemFault};
 ghost use Rattle.cr_read.specs.Steps.{IsLeadOf};
 ghost use Rattle.cr_model.specs.declared.file_fault.ProblemFault.{ProblemFault};
 
@@ -22,10 +22,10 @@ pub use examples::{
 /// The leads of a file whose calls are right are in the order of the steps, and they are the leads that there are: no
 /// other stands in their list, and none is left out.
 pub fn leads_are_in_order_and_whole()
-    ensures order { (file : FileParts) (n : ℕ) (tunes : Tunes) → CallsPass file n tunes →
-        1 ≤ length file.methods → LeadsAreRight n (length (letters_of file)) (leads_of file tunes) }
-    ensures whole { (file : FileParts) (n : ℕ) (tunes : Tunes) → CallsPass file n tunes →
-        (lead : LeadParts) → Contains (leads_of file tunes) lead ↔ IsLeadOf file tunes lead }
+    ensures order { (file : FileParts) (n : ℕ) (spellings : Spellings) → CallsPass file n spellings →
+        1 ≤ length file.methods → LeadsAreRight n (length (letters_of file)) (leads_of file spellings) }
+    ensures whole { (file : FileParts) (n : ℕ) (spellings : Spellings) → CallsPass file n spellings →
+        (lead : LeadParts) → Contains (leads_of file spellings) lead ↔ IsLeadOf file spellings lead }
 {}
 
 /// Bytes are the file of one problem at most, they have one first fault at most, and never both.

@@ -1,15 +1,15 @@
 //! The leads of a problem file, in the order of the steps.
 
 ghost use Rattle.std.specs.Prelude.{◌≡◌, ◌<◌, ◌≤◌, ◌++◌, nat_eq, ◌&&◌, length, IfOk, IfSome};
-ghost use Rattle.cr_model.specs.ProblemFiles.{letters_of, mark_at, is_for, call_with, called_tune, called_lead};
-ghost use Rattle.cr_model.specs.ProblemFiles.{leads_of_method, leads_of, lead_from, tune_at};
+ghost use Rattle.cr_model.specs.ProblemFiles.{letters_of, mark_at, is_for, call_with, called_spelling, called_lead};
+ghost use Rattle.cr_model.specs.ProblemFiles.{leads_of_method, leads_of, lead_from, spelling_at};
 ghost use Rattle.cr_model.specs.Right.{plain};
-ghost use Rattle.cr_read.specs.Reading.{IsTuned};
+ghost use Rattle.cr_read.specs.Reading.{HasSpellings};
 
-use crate::calls::{is_for, mark_of, replaced, tune_changes};
+use crate::calls::{changes_spelled, is_for, mark_of, replaced};
 use crate::file_parts::File;
-use crate::tunes::Tunes;
-use cr_model::{Lead, Step};
+use crate::spellings::Spellings;
+use cr_model::{Lead, PLAIN, Step};
 use cr_row::{Change, NoMemory};
 use std::alloc::{AllocError, Global};
 
@@ -46,28 +46,28 @@ fn call_with(file: &File, letters: &[u8], method: usize, mark: u8) -> Option<usi
 fn called_changes(
     alloc: Global,
     file: &File,
-    tunes: &Tunes,
+    spellings: &Spellings,
     call: usize,
     method: usize,
 ) -> Result<Vec<Change>, AllocError>
     requires known { call < length file.now.calls }
     requires there { method < length file.now.methods }
-    requires tuned { IsTuned file.now tunes.now }
-    ensures { IfOk result (λ changes. changes.items ≡ called_tune file.now tunes.now call method) }
+    requires has_spellings { HasSpellings file.now spellings.now }
+    ensures { IfOk result (λ changes. changes.items ≡ called_spelling file.now spellings.now call method) }
 {
-    let rung = tune_changes(&tunes.methods, method);
-    let over = replaced(file, tunes, call).min(rung.len() as u64) as usize;
+    let rung = changes_spelled(&spellings.methods, method);
+    let over = replaced(file, spellings, call).min(rung.len() as u64) as usize;
     let mut changes = rung[..rung.len() - over].to_vec(alloc)?;
-    changes.extend_from_slice(tune_changes(&tunes.calls, call))?;
+    changes.extend_from_slice(changes_spelled(&spellings.calls, call))?;
     Ok(changes)
 }
 
-fn plain_lead(alloc: Global, tunes: &Tunes, method: usize) -> Result<Lead, AllocError>
+fn plain_lead(alloc: Global, spellings: &Spellings, method: usize) -> Result<Lead, AllocError>
     requires few { method < 256 }
-    requires there { method < length tunes.now.methods }
-    ensures { IfOk result (λ lead. lead ≡ lead_from method plain (tune_at tunes.now.methods method)) }
+    requires there { method < length spellings.now.methods }
+    ensures { IfOk result (λ lead. lead ≡ lead_from method plain (spelling_at spellings.now.methods method)) }
 {
-    let changes = tune_changes(&tunes.methods, method).to_vec(alloc)?;
+    let changes = changes_spelled(&spellings.methods, method).to_vec(alloc)?;
     Ok(Lead {
         step: Step {
             method: method as u8,
@@ -77,12 +77,10 @@ fn plain_lead(alloc: Global, tunes: &Tunes, method: usize) -> Result<Lead, Alloc
     })
 }
 
-const PLAIN: u8 = b'p';
-
 fn called_lead(
     alloc: Global,
     file: &File,
-    tunes: &Tunes,
+    spellings: &Spellings,
     call: usize,
     method: usize,
     mark: u8,
@@ -90,10 +88,10 @@ fn called_lead(
     requires few { method < 256 }
     requires known { call < length file.now.calls }
     requires there { method < length file.now.methods }
-    requires tuned { IsTuned file.now tunes.now }
-    ensures { IfOk result (λ lead. lead ≡ lead_from method mark (called_tune file.now tunes.now call method)) }
+    requires has_spellings { HasSpellings file.now spellings.now }
+    ensures { IfOk result (λ lead. lead ≡ lead_from method mark (called_spelling file.now spellings.now call method)) }
 {
-    let changes = called_changes(alloc, file, tunes, call, method)?;
+    let changes = called_changes(alloc, file, spellings, call, method)?;
     Ok(Lead {
         step: Step {
             method: method as u8,
@@ -108,7 +106,7 @@ fn add_called(
     alloc: Global,
     file: &File,
     letters: &[u8],
-    tunes: &Tunes,
+    spellings: &Spellings,
     method: usize,
     mark: u8,
     leads: &mut Vec<Lead>,
@@ -116,12 +114,12 @@ fn add_called(
     requires is { letters.now ≡ letters_of file.now }
     requires few { method < 256 }
     requires there { method < length file.now.methods }
-    requires tuned { IsTuned file.now tunes.now }
+    requires has_spellings { HasSpellings file.now spellings.now }
     ensures { IfOk result (λ _. leads.new.items ≡ leads.old.items
-        ++ called_lead file.now tunes.now method mark (call_with file.now method mark)) }
+        ++ called_lead file.now spellings.now method mark (call_with file.now method mark)) }
 {
     if let Some(call) = call_with(file, letters, method, mark) {
-        leads.push(called_lead(alloc, file, tunes, call, method, mark)?)?;
+        leads.push(called_lead(alloc, file, spellings, call, method, mark)?)?;
     }
     Ok(())
 }
@@ -131,19 +129,19 @@ fn add_method(
     alloc: Global,
     file: &File,
     letters: &[u8],
-    tunes: &Tunes,
+    spellings: &Spellings,
     method: usize,
     leads: &mut Vec<Lead>,
 ) -> Result<(), NoMemory>
     requires is { letters.now ≡ letters_of file.now }
     requires few { method < 256 }
     requires there { method < length file.now.methods }
-    requires tuned { IsTuned file.now tunes.now }
-    ensures { IfOk result (λ _. leads.new.items ≡ leads.old.items ++ leads_of_method file.now tunes.now method) }
+    requires has_spellings { HasSpellings file.now spellings.now }
+    ensures { IfOk result (λ _. leads.new.items ≡ leads.old.items ++ leads_of_method file.now spellings.now method) }
 {
-    leads.push(plain_lead(alloc, tunes, method)?)?;
+    leads.push(plain_lead(alloc, spellings, method)?)?;
     for mark in b'a'..b'z' + 1 {
-        add_called(alloc, file, letters, tunes, method, mark, leads)?;
+        add_called(alloc, file, letters, spellings, method, mark, leads)?;
     }
     Ok(())
 }
@@ -153,16 +151,16 @@ pub fn leads_of(
     alloc: Global,
     file: &File,
     letters: &[u8],
-    tunes: &Tunes,
+    spellings: &Spellings,
 ) -> Result<Vec<Lead>, NoMemory>
     requires is { letters.now ≡ letters_of file.now }
     requires few { length file.now.methods ≤ 256 }
-    requires tuned { IsTuned file.now tunes.now }
-    ensures { IfOk result (λ leads. leads.items ≡ leads_of file.now tunes.now) }
+    requires has_spellings { HasSpellings file.now spellings.now }
+    ensures { IfOk result (λ leads. leads.items ≡ leads_of file.now spellings.now) }
 {
     let mut leads = Vec::new(alloc);
     for method in 0..file.method_count() {
-        add_method(alloc, file, letters, tunes, method, &mut leads)?;
+        add_method(alloc, file, letters, spellings, method, &mut leads)?;
     }
     Ok(leads)
 }

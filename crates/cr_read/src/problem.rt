@@ -10,7 +10,7 @@ use crate::file_parts::File;
 use crate::leads::leads_of;
 use crate::letters::{check_letters, letters_of};
 use crate::query::query_of;
-use crate::tunes::{Tunes, read_tunes};
+use crate::spellings::{Spellings, read_spellings};
 use cr_model::{PartFault, Problem, ProblemFault};
 use cr_row::Stage;
 use std::alloc::Global;
@@ -38,14 +38,14 @@ fn made(
     file: &File,
     letters: Vec<u8>,
     stage: Stage,
-    tunes: &Tunes,
+    spellings: &Spellings,
 ) -> Result<Problem, ProblemFault>
     requires some { 1 ≤ length file.now.methods }
     requires letters { letters.items ≡ letters_of file.now }
-    requires passes { CallsPass file.now stage tunes.now }
+    requires passes { CallsPass file.now stage spellings.now }
     ensures { MatchResult result (λ p. Makes file.now p × IsSound p) (Refused file.now) }
 {
-    let leads = leads_of(alloc, file, &letters, tunes)?;
+    let leads = leads_of(alloc, file, &letters, spellings)?;
     let query = query_of(alloc, file)?;
     match Problem::new(stage, letters, leads, query) {
         Ok(problem) => Ok(problem),
@@ -60,7 +60,7 @@ pub fn problem_of(alloc: Global, file: &File) -> Result<Problem, ProblemFault>
 {
     let letters = letters_of(alloc, file)?;
     let stage = check_letters(file, &letters)?;
-    let tunes = read_tunes(alloc, stage, file)?;
-    check_calls(file, &letters, &tunes)?;
-    made(alloc, file, letters, stage, &tunes)
+    let spellings = read_spellings(alloc, stage, file)?;
+    check_calls(file, &letters, &spellings)?;
+    made(alloc, file, letters, stage, &spellings)
 }

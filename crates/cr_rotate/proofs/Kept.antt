@@ -2,7 +2,7 @@
 use Rattle.std.proofs.Common.{◌≡◌, ℕ, zero, suc, ◌+◌, ◌-◌, ◌<◌, ◌≤◌, ◌↔◌, List, [], ◌∷◌, ◌++◌, length, get_or, take, refl, sym, ◌∙◌, subst, inl, inr, arith, length-append}
 use Rattle.std.proofs.lemmas.Bool.{cases_order}
 use Rattle.std.proofs.lemmas.List.{length-take-le, get_or-take, get_or_append_left, get_or_at}
-use Rattle.cr_model.specs.Turning.{TurnsBack}
+use Rattle.cr_model.specs.LeastRotations.{TurnsBack}
 use Rattle.cr_rotate.specs.Fronts.{FrontTurns, FrontRepeats, Tells, IsKept}
 use Rattle.cr_rotate.proofs.Periods.{turns, still_turned, goes_on, begins_anew, first_step, not_both}
 use Rattle.cr_rotate.proofs.WholeFronts.{falls, turned_back}

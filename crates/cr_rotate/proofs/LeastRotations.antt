@@ -5,7 +5,7 @@ use Rattle.std.proofs.lemmas.Bool.{cases_order}
 use Rattle.std.proofs.lemmas.Nat.{mod_below}
 use Rattle.std.proofs.lemmas.List.{length-take-le, get_or-append_right, get_or_append_left, get_or-append-add}
 use Rattle.cr_model.specs.Touches.{IsRotation}
-use Rattle.cr_model.specs.Turning.{TurnsBack, IsLeastRotation, IsPeriod}
+use Rattle.cr_model.specs.LeastRotations.{TurnsBack, IsLeastRotation, IsPeriod}
 use Rattle.cr_rotate.specs.Fronts.{Rises, FrontTurns, FrontRepeats, Tells}
 use Rattle.cr_rotate.proofs.Lists.{less_at, first_place}
 use Rattle.cr_rotate.proofs.Periods.{at, turns, still_turned, goes_on, begins_anew, first_step, not_both}

@@ -5,7 +5,7 @@ use Rattle.std.proofs.Math.Nat.{mod-add-div', mul_assoc, mul-mod_left}
 use Rattle.std.proofs.lemmas.Bool.{cases_order}
 use Rattle.std.proofs.lemmas.List.{get_or-append_right, get_or_append_left}
 use Rattle.cr_model.specs.Queries.{repeated}
-use Rattle.cr_model.specs.Turning.{IsLeastRotation}
+use Rattle.cr_model.specs.LeastRotations.{IsLeastRotation}
 use Rattle.cr_rotate.specs.Fronts.{FrontRepeats}
 use Rattle.cr_rotate.proofs.Lists.{less_at, first_place}
 use Rattle.cr_rotate.proofs.Periods.{at}

@@ -1,7 +1,7 @@
 -- A word turns back exactly where its whole front does.
 use Rattle.std.proofs.Common.{◌≡◌, ◌≢◌, ℕ, ◌+◌, ◌-◌, ◌<◌, List, [], ◌∷◌, ◌++◌, length, get_or, take, drop, refl, sym, ap, ◌∙◌, arith, length-append, length-drop, take-append-drop}
 use Rattle.std.proofs.lemmas.List.{length-take-le, get_or-append-add, get_or-take, get_or-drop}
-use Rattle.cr_model.specs.Turning.{TurnsBack}
+use Rattle.cr_model.specs.LeastRotations.{TurnsBack}
 use Rattle.cr_rotate.specs.Fronts.{FrontTurns}
 use Rattle.cr_rotate.proofs.Lists.{less_at, first_place}
 

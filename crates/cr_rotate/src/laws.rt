@@ -2,7 +2,7 @@
 
 ghost use Rattle.std.specs.Prelude.{◌≡◌, ℕ, ◌%◌, ◌<◌, ◌↔◌, List, length};
 ghost use Rattle.cr_model.specs.Queries.{repeated};
-ghost use Rattle.cr_model.specs.Turning.{TurnsBack, IsLeastRotation, IsPeriod};
+ghost use Rattle.cr_model.specs.LeastRotations.{TurnsBack, IsLeastRotation, IsPeriod};
 
 /// A word is the least of its rotations exactly where it does not turn back and its length is a
 /// multiple of its period.

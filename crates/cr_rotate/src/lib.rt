@@ -3,10 +3,10 @@
 
 pub mod laws;
 mod period;
-mod turning;
+mod rotations;
 
 pub use period::Period;
-pub use turning::{turned, turns_back};
+pub use rotations::{turned, turns_back};
 
 #[cfg(test)]
 mod tests;

@@ -1,7 +1,7 @@
 //! The period of a word that grows and shrinks at its end.
 
 ghost use Rattle.std.specs.Prelude.{◌≡◌, ◌+◌, ◌-◌, ◌<◌, ◌≤◌, ℕ, ◌↔◌, List, [], ◌∷◌, ◌++◌, length, take, IsTrue, IfOk, IfSome};
-ghost use Rattle.cr_model.specs.Turning.{TurnsBack, IsLeastRotation};
+ghost use Rattle.cr_model.specs.LeastRotations.{TurnsBack, IsLeastRotation};
 ghost use Rattle.cr_rotate.specs.Fronts.{FrontRepeats, IsKept, Tells};
 
 use cr_row::NoMemory;

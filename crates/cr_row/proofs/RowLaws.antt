@@ -107,16 +107,16 @@ product_right g h r row long same e =
 -- a row that undoes another on the right does so on the left
 pub undone_back : (h r : List ℕ) → IsRow h → IsRow r → length h ≡ length r → product h r ≡ rounds (length h)
     → product r h ≡ rounds (length h)
-undone_back h r one two same home =
+undone_back h r one two same round =
     let row : IsRow (product r h) = IsRow-product r h two one (sym same) in
-    let whole : product h (product r h) ≡ h = sym (product_assoc h r h one (sym same)) ∙ ap (λ l. product l h) home ∙ rounds-product h one in
+    let whole : product h (product r h) ≡ h = sym (product_assoc h r h one (sym same)) ∙ ap (λ l. product l h) round ∙ rounds-product h one in
     product_left h (product r h) (rounds (length h)) one row (IsRow-rounds (length h)) (length-product r h) (length-rounds (length h)) (whole ∙ sym (product-rounds h))
 
 pub inverse_right : (h r : List ℕ) → IsRow h → IsRow r → length h ≡ length r → product h r ≡ rounds (length h)
     → IsInverse h r
-inverse_right h r one two same home = record { right = home; left = undone_back h r one two same home }
+inverse_right h r one two same round = record { right = round; left = undone_back h r one two same round }
 
 pub inverse_left : (h r : List ℕ) → IsRow h → IsRow r → length h ≡ length r → product r h ≡ rounds (length h)
     → IsInverse h r
-inverse_left h r one two same home =
-    record { right = undone_back r h two one (sym same) (home ∙ ap rounds same) ∙ ap rounds (sym same); left = home }
+inverse_left h r one two same round =
+    record { right = undone_back r h two one (sym same) (round ∙ ap rounds same) ∙ ap rounds (sym same); left = round }

@@ -45,16 +45,16 @@ abbrev pub GoesOn : Type 0
 GoesOn = (p : ProblemParts) (job found rest more left : List (List ℕ)) (used further : ℕ)
     → IsDone p job found rest used → IsDone p rest more left further → IsDone p job (found ++ more) left (used + further)
 
--- each step leads home, whatever the depth of the levels is
-home_at_once : (levels : ℕ) → position_or_len (λ leads. is_listed (level hunts leads) (rounds 3)) (range_with_len 0 (levels + 1)) ≡ 0
+-- each step leads to rounds, whatever the depth of the levels is
+round_at_once : (levels : ℕ) → position_or_len (λ leads. is_listed (level hunts leads) (rounds 3)) (range_with_len 0 (levels + 1)) ≡ 0
 unfolding spread
-home_at_once levels =
+round_at_once levels =
     let e : levels + 1 ≡ suc levels = omega arith in
     ap (λ n. position_or_len (λ leads. is_listed (level hunts leads) (rounds 3)) (range_with_len 0 n)) e
 
 near : at_least hunts most_rows (rounds 3) ≡ 0
 unfolding at_least
-near = home_at_once (depth hunts most_rows)
+near = round_at_once (depth hunts most_rows)
 
 -- so no step is dead
 first_lives : dead hunts most_rows (0 ∷ []) ≡ None

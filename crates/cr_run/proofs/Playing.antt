@@ -7,12 +7,12 @@ use Rattle.std.proofs.lemmas.List.{get_or-set_same, get_or-append-add, length-ap
 use Rattle.std.proofs.lemmas.List.Concat.{flat_map-cons}
 use Rattle.std.proofs.lemmas.List.Sums.{sum_by-cons}
 use Rattle.cr_model.specs.Problems.{ProblemParts}
-use Rattle.cr_model.specs.Dead.{left_of}
+use Rattle.cr_model.specs.Dead.{remaining_of}
 use Rattle.cr_model.specs.Sizes.{most_rows, size_within, size, size_of_all}
 use Rattle.cr_node.specs.Work.{Work}
 use Rattle.cr_board.specs.Jobs.{JobParts, OpeningParts}
 use Rattle.cr_board.specs.Boards.{BoardParts, held_at, held_jobs, held_grant, jobs_of, nodes_of, promised}
-use Rattle.cr_board.specs.Halls.{AreAllowed, start, replay, grant_of, granted}
+use Rattle.cr_board.specs.ReplayStates.{AreAllowed, start, replay, grant_of, granted}
 use Rattle.cr_board.specs.Partitions.{HasShape, Partition, IsKept}
 use Rattle.cr_board.specs.Choices.{is_stranger, is_spent, is_holding, refusal_of, refusal_to, next_place, next_answer, answer_by, waits_for, first_from, grant_now, job_at}
 use Rattle.cr_board.specs.Moves.{taken_at, after_ask, after_next, handed_in}
@@ -80,7 +80,7 @@ one_at_least p most (suc changes) node = omega arith
 
 pub some_size : (p : ProblemParts) (most : ℕ) (nodes : List (List ℕ)) → 0 < length nodes → 1 ≤ size_of_all p most nodes
 some_size p most [] some = absurd (omega arith)
-some_size p most (node ∷ nodes) some = omega (arith, sum_by-cons (size p most) node nodes, one_at_least p most (left_of p node) node)
+some_size p most (node ∷ nodes) some = omega (arith, sum_by-cons (size p most) node nodes, one_at_least p most (remaining_of p node) node)
 
 -- where nobody holds a job, what was promised is what was spent, and that is within the budget
 module _ (b : BoardParts) (idle : flat_map held_jobs b.held ≡ []) where
@@ -135,7 +135,7 @@ module _ (b : BoardParts) (idle : flat_map held_jobs b.held ≡ []) where
 -- a board never spends more than its budget
 pub spent_within : BudgetIsKept → (b : BoardParts) → IsKept b → (budget : ℕ) → b.opening.budget ≡ Some budget → b.spent ≤ budget
 spent_within law b kept budget e =
-    let spent : b.spent ≡ (replay b.opening b.journal).spent = ap (λ h. h.spent) kept.replayed.hall in
+    let spent : b.spent ≡ (replay b.opening b.journal).spent = ap (λ h. h.spent) kept.replayed.replay_state in
     omega (arith, spent, law b.opening b.journal budget kept.opening.some kept.replayed.allowed e)
 
 -- what is held after a take, and the job that is held

@@ -12,9 +12,10 @@ use Rattle.cr_model.specs.Limits.{most_leads}
 use Rattle.cr_model.specs.Books.{lead_text, calling_text}
 use Rattle.cr_model.specs.Checkpoints.{steps_text}
 use Rattle.cr_model.specs.Sound.{IsSound}
-use Rattle.cr_book.specs.Readings.{IsTextOf}
+use Rattle.cr_book.specs.Readings.{IsCallingText}
 use Rattle.cr_store.specs.Shapes.{FoundParts, NodeParts}
-use Rattle.cr_store.specs.Lines.{HasParts, left_out, IsTouchOf, IsNodeOf}
+use Rattle.cr_query.specs.Meeting.{HasParts}
+use Rattle.cr_store.specs.Lines.{left_out, IsTouchOf, IsNodeOf}
 use Rattle.cr_store.specs.Reading.{IsStepsText}
 use Rattle.cr_store.proofs.Words.{repeats_first}
 use Rattle.cr_store.proofs.StepTexts.{OneCalling, node_is, node_told, node_made, low_shared}
@@ -135,10 +136,10 @@ module _ (p : ProblemParts) where
 
 module _ (p : ProblemParts) (sound : IsSound p) (one : OneCalling p) where
   -- a text is that of a calling
-  pub calling_or_none : (text : List ℕ) → Told (IsTextOf p text)
+  pub calling_or_none : (text : List ℕ) → Told (IsCallingText p text)
   calling_or_none text = by (steps_or_none p (length text) text (omega arith))
     where
-      by : Told (HasText p text) → Told (IsTextOf p text)
+      by : Told (HasText p text) → Told (IsCallingText p text)
       by (inr none) = inr (λ calling is. none calling (is.readable.steps, is.is))
       by (inl some) = elim (short_or_not p some.0) [
         | inl short ↦ inl (some.0, record { readable = record { steps = some.1.0; some = short.0; few = short.1 }; is = some.1.1 })
@@ -151,7 +152,7 @@ module _ (p : ProblemParts) (sound : IsSound p) (one : OneCalling p) where
   pub touch_or_none : (line : FoundParts) → Told (IsTouchOf p line)
   touch_or_none line = by (calling_or_none line.calling)
     where
-      by : Told (IsTextOf p line.calling) → Told (IsTouchOf p line)
+      by : Told (IsCallingText p line.calling) → Told (IsTouchOf p line)
       by (inr none) = inr (λ touch is. none touch is.calling)
       by (inl some) = elim (both_or_not (line.length ≡ length_of p some.0) (HasParts p some.0) (equal_or_not line.length (length_of p some.0)) (parts_or_not p some.0)) [
         | inl both ↦ inl (some.0, record { calling = some.1; long = both.0; parts = both.1 })
@@ -167,7 +168,7 @@ module _ (p : ProblemParts) (sound : IsSound p) (one : OneCalling p) where
     | inr other ↦ by other (calling_or_none text)
   ]
     where
-      by : (text ≢ codes "-") → Told (IsTextOf p text) → Told (IsStepsText p text)
+      by : (text ≢ codes "-") → Told (IsCallingText p text) → Told (IsStepsText p text)
       by other (inr none) = inr no_steps
         where
           no_steps : (steps : List ℕ) → IsStepsText p text steps → ⊥

@@ -4,9 +4,9 @@ use Rattle.cr_model.specs.Problems.{ProblemParts}
 use Rattle.cr_model.specs.Checks.{IsFirstFailure}
 use Rattle.cr_store.specs.declared.fault.CheckFault.{CheckFault}
 use Rattle.cr_store.specs.Shapes.{ShapeParts, HasShape}
-use Rattle.cr_store.specs.Faults.{HasProblem, HasLines, lengths_check, kept_check, order_check, item_checks, IsFaultOf, IsUnread, OrNoMemory, FirstCheckFault}
+use Rattle.cr_store.specs.Faults.{HasProblem, HasLines, lengths_check, kept_check, order_check, item_checks, IsProblemFaultOf, IsUnread, OrNoMemory, FirstCheckFault}
 
-pub of_problem : (bytes : List ℕ) (shape : ShapeParts) (why : CheckFault) → HasShape bytes shape → IsFaultOf shape.problem why → FirstCheckFault bytes why
+pub of_problem : (bytes : List ℕ) (shape : ShapeParts) (why : CheckFault) → HasShape bytes shape → IsProblemFaultOf shape.problem why → FirstCheckFault bytes why
 of_problem bytes shape why shape_is wrong = subst (FirstCheckFault bytes) (sym wrong.1) (record { shape = shape; shape_is = shape_is; wrong = wrong.2 })
 
 pub of_line : (bytes : List ℕ) (shape : ShapeParts) (p : ProblemParts) (why : CheckFault) → HasProblem bytes shape p → IsUnread p shape why → FirstCheckFault bytes why

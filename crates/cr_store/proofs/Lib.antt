@@ -19,7 +19,7 @@ pub mod Adding
 pub mod NodeReads
 pub mod ItemFacts
 pub mod LineCount
-pub mod Telling
+pub mod OneTold
 pub mod LinesStand
 pub mod ShapeBytes
 pub mod ShapeNumbers

@@ -14,7 +14,7 @@ use Rattle.cr_store.specs.declared.fault.CheckFault.TheVariants as fault
 use Rattle.cr_store.specs.Shapes.{ShapeParts, HasShape}
 use Rattle.cr_store.specs.ShapeFaults.{IsFormFault}
 use Rattle.cr_store.specs.Lines.{node_lines_of, line_of, HasItems, CanBeRead}
-use Rattle.cr_store.specs.Faults.{IsShortNode, IsKeptAt, Follows, overlap_check, item_checks, IsFaultOf, IsUnread, FirstCheckFault}
+use Rattle.cr_store.specs.Faults.{IsShortNode, IsKeptAt, Follows, overlap_check, item_checks, IsProblemFaultOf, IsUnread, FirstCheckFault}
 use Rattle.cr_store.specs.Progress.{Progress}
 use Rattle.cr_store.proofs.StepTexts.{OneCalling}
 use Rattle.cr_store.proofs.ReadUpTo.{one_items, each_can_be_read}
@@ -51,7 +51,7 @@ record LinesWrong (shape : ShapeParts) (why : CheckFault) : Type 0 where
 record HeldWrong (bytes : List ℕ) (why : CheckFault) : Type 0 where
   shape : ShapeParts
   shape_is : HasShape bytes shape
-  wrong : IsFaultOf shape.problem why ⊎ LinesWrong shape why
+  wrong : IsProblemFaultOf shape.problem why ⊎ LinesWrong shape why
 
 -- a fault of the form
 FormWrong : List ℕ → CheckFault → Type 0
@@ -146,7 +146,7 @@ module _ (laws : Laws) where
         none_fails (item_checks p shape found nodes) (exact p shape found nodes) f hold
         (subst (λ ns. IsFirstFailure (item_checks p shape found ns) f) rest (subst (λ fs. IsFirstFailure (item_checks p shape fs a.nodes) f) founds a.wrong))
 
-  held_one : (shape : ShapeParts) (f g : CheckFault) → IsFaultOf shape.problem f ⊎ LinesWrong shape f → IsFaultOf shape.problem g ⊎ LinesWrong shape g → f ≡ g
+  held_one : (shape : ShapeParts) (f g : CheckFault) → IsProblemFaultOf shape.problem f ⊎ LinesWrong shape f → IsProblemFaultOf shape.problem g ⊎ LinesWrong shape g → f ≡ g
   held_one shape f g (inl a) (inl b) = a.1 ∙ ap fault.Problem (laws.one_wrong shape.problem a.0 b.0 a.2 b.2) ∙ sym b.1
   held_one shape f g (inl a) (inr b) = absurd (laws.no_wrong shape.problem b.p a.0 b.problem a.2)
   held_one shape f g (inr a) (inl b) = absurd (laws.no_wrong shape.problem a.p b.0 a.problem b.2)
@@ -161,7 +161,7 @@ module _ (laws : Laws) where
   wrong_one bytes f g (inr a) (inl b) = absurd (laws.no_form bytes a.shape b.0 a.shape_is b.2)
   wrong_one bytes f g (inr a) (inr b) =
       let same = laws.one_shape bytes b.shape a.shape b.shape_is a.shape_is in
-      held_one a.shape f g a.wrong (subst (λ s. IsFaultOf s.problem g ⊎ LinesWrong s g) same b.wrong)
+      held_one a.shape f g a.wrong (subst (λ s. IsProblemFaultOf s.problem g ⊎ LinesWrong s g) same b.wrong)
 
   pub one_fault : (bytes : List ℕ) (f g : CheckFault) → FirstCheckFault bytes f → FirstCheckFault bytes g → f ≡ g
   one_fault bytes f g a b = wrong_one bytes f g (by_level bytes f a) (by_level bytes g b)
@@ -169,12 +169,12 @@ module _ (laws : Laws) where
   never : (bytes : List ℕ) (c : Progress) (f : CheckFault) → IsPrinted bytes c → ProblemFile c.bytes c.problem → FormWrong bytes f ⊎ HeldWrong bytes f → ⊥
   unfolding FormWrong
   never bytes c f is problem (inl a) = laws.no_form bytes is.shape a.0 is.shape_is a.2
-  never bytes c f is problem (inr a) = by (subst (λ s. IsFaultOf s.problem f ⊎ LinesWrong s f) (laws.one_shape bytes a.shape is.shape a.shape_is is.shape_is) a.wrong)
+  never bytes c f is problem (inr a) = by (subst (λ s. IsProblemFaultOf s.problem f ⊎ LinesWrong s f) (laws.one_shape bytes a.shape is.shape a.shape_is is.shape_is) a.wrong)
     where
       file : ProblemFile is.shape.problem c.problem
       file = subst (λ b. ProblemFile b c.problem) (sym is.bytes_are) problem
 
-      by : IsFaultOf is.shape.problem f ⊎ LinesWrong is.shape f → ⊥
+      by : IsProblemFaultOf is.shape.problem f ⊎ LinesWrong is.shape f → ⊥
       by (inl b) = laws.no_wrong is.shape.problem c.problem b.0 file b.2
       by (inr b) =
           let same = laws.one_problem is.shape.problem b.p c.problem b.problem file in

@@ -7,11 +7,12 @@ use Rattle.cr_store.specs.declared.shape.FoundLine.{FoundLine}
 use Rattle.cr_store.specs.ShapeReads.{found_parts}
 use Rattle.cr_model.specs.Problems.{ProblemParts}
 use Rattle.cr_model.specs.Callings.{length_of}
-use Rattle.cr_book.specs.Readings.{IsTextOf}
+use Rattle.cr_book.specs.Readings.{IsCallingText}
 use Rattle.cr_model.specs.Checks.{IsFirstWrong}
 use Rattle.cr_model.specs.Sound.{IsSound}
 use Rattle.cr_store.specs.Shapes.{FoundParts, ShapeParts}
-use Rattle.cr_store.specs.Lines.{node_lines_of, HasParts, IsTouchOf, AreNodesOf, HasItems, CanBeRead}
+use Rattle.cr_query.specs.Meeting.{HasParts}
+use Rattle.cr_store.specs.Lines.{node_lines_of, IsTouchOf, AreNodesOf, HasItems, CanBeRead}
 use Rattle.cr_store.specs.Reading.{StopsAtTouch, ReadsTouches, ReadsNodes}
 use Rattle.cr_store.proofs.StepTexts.{OneCalling}
 use Rattle.cr_store.proofs.LineReads.{first_nodes, one_nodes, stopped}
@@ -122,7 +123,7 @@ module _ (p : ProblemParts) (sound : IsSound p) (one : OneCalling p) where
   )
 
 -- a calling whose line tells another length, or that has other parts, is no touch
-pub not_told : (p : ProblemParts) → OneCalling p → (line : FoundParts) (calling : List ℕ) → IsTextOf p line.calling calling
+pub not_told : (p : ProblemParts) → OneCalling p → (line : FoundParts) (calling : List ℕ) → IsCallingText p line.calling calling
     → ((line.length ≡ length_of p calling) × HasParts p calling → ⊥) → (touch : List ℕ) → IsTouchOf p line touch → ⊥
 not_told p one line calling is other touch told =
     let same : touch ≡ calling = one touch calling told.calling.readable.steps is.readable.steps (told.calling.is ∙ sym is.is) in

@@ -5,7 +5,7 @@ use Rattle.std.proofs.lemmas.Bool.{cases_lt}
 use Rattle.std.proofs.lemmas.List.{append_cancel_left}
 use Rattle.cr_model.specs.Checkpoints.{number_line}
 use Rattle.cr_store.specs.Shapes.{FoundParts, NodeParts, ShapeParts, IsNumber, IsFoundLine, IsNodeLine, IsJobLines, HasShape, found_text, node_text, job_text, line_feeds, found_line}
-use Rattle.cr_store.specs.ShapeFaults.{CanBegin, IsFirstWrongLine, IsFirstWrongPlace, IsFormFault}
+use Rattle.cr_store.specs.ShapeFaults.{CanBeginShape, IsFirstWrongLine, IsFirstWrongPlace, IsFormFault}
 use Rattle.cr_store.specs.ShapeSteps.{Lacks, found_body, node_body, named}
 use Rattle.cr_store.proofs.ShapeBytes.{feeds_joined, goes_past, append_parts, feeds_lacking}
 use Rattle.cr_store.proofs.ShapeBodies.{named_lacks}
@@ -68,7 +68,7 @@ one_line text line other (inr one) (inr two) = elim (cases_lt line other) [
 ]
 
 -- what can begin a text with a shape, its fronts can too
-begins_shorter : (front more : List ℕ) → CanBegin (front ++ more) → CanBegin front
+begins_shorter : (front more : List ℕ) → CanBeginShape (front ++ more) → CanBeginShape front
 begins_shorter front more can = record {
   shape = can.shape;
   more = more ++ can.more;
@@ -92,14 +92,14 @@ byte_and_line text place wrong = record {
       by upto others past.part past.is past.rest_is many can;
 }
   where
-    by : (upto others part : List ℕ) → upto ≡ take place text ++ part → drop place text ≡ part ++ others → 1 + line_feeds (take place text) ≤ line_feeds upto → CanBegin upto → ⊥
+    by : (upto others part : List ℕ) → upto ≡ take place text ++ part → drop place text ≡ part ++ others → 1 + line_feeds (take place text) ≤ line_feeds upto → CanBeginShape upto → ⊥
     by upto others [] is rest many can = absurd (omega (arith, feeds_joined (take place text) [], ap line_feeds is))
     by upto others (byte ∷ part) is rest many can =
         let long : length (drop place text) ≡ length (byte ∷ part ++ others) = ap length rest in
         let inside : place < length text = omega (arith, length-drop place text) in
         let split : upto ≡ take (place + 1) text ++ part =
         is ∙ sym (append_assoc (take place text) (byte ∷ []) part) ∙ ap (λ l. l ++ part) (sym (one_more text place byte (part ++ others) wrong.within rest)) in
-        wrong.here inside (begins_shorter (take (place + 1) text) part (subst CanBegin split can))
+        wrong.here inside (begins_shorter (take (place + 1) text) part (subst CanBeginShape split can))
 
 regrouped : (a b c d : List ℕ) → a ++ (b ++ (c ++ d)) ≡ a ++ (b ++ c) ++ d
 regrouped a b c d = simp append_assoc

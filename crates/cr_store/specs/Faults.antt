@@ -98,8 +98,8 @@ FirstCheckFault bytes (fault.Calling line) = IsLineWrong bytes line
 FirstCheckFault bytes why = IsItemWrong bytes why
 
 -- a fault of the problem's bytes
-abbrev pub IsFaultOf : List ℕ → CheckFault → Type 0
-IsFaultOf bytes why = (wrong : ProblemFault) × (why ≡ fault.Problem wrong) × FirstProblemFault bytes wrong
+abbrev pub IsProblemFaultOf : List ℕ → CheckFault → Type 0
+IsProblemFaultOf bytes why = (wrong : ProblemFault) × (why ≡ fault.Problem wrong) × FirstProblemFault bytes wrong
 
 -- a fault of a line
 abbrev pub IsUnread : ProblemParts → ShapeParts → CheckFault → Type 0

@@ -3,10 +3,10 @@ use Rattle.std.specs.Prelude.{◌≡◌, ℕ, ◌+◌, ◌-◌, ◌≤◌, nat_e
 use Rattle.std.specs.List.{range_with_len, AllZip}
 use Rattle.cr_model.specs.Problems.{ProblemParts}
 use Rattle.cr_model.specs.Callings.{HasSteps, length_of}
-use Rattle.cr_model.specs.Queries.{repeated}
 use Rattle.cr_model.specs.Limits.{most_leads}
 use Rattle.cr_model.specs.Checkpoints.{steps_text, steps_shared}
-use Rattle.cr_book.specs.Readings.{IsTextOf}
+use Rattle.cr_book.specs.Readings.{IsCallingText}
+use Rattle.cr_query.specs.Meeting.{HasParts}
 use Rattle.cr_store.specs.Shapes.{FoundParts, NodeParts, ShapeParts, line_feeds, found_line}
 
 -- all node lines
@@ -36,13 +36,9 @@ last_line shape = last_after (found_line shape + length shape.found + 2) shape.j
 abbrev pub line_of : ShapeParts → ℕ → ℕ
 line_of shape item = get_or (item_numbers shape) item 0
 
--- as many equal words as the query has parts
-abbrev pub HasParts : ProblemParts → List ℕ → Type 0
-HasParts p calling = (word : List ℕ) × (calling ≡ repeated (nat_abs p.query.parts) word)
-
 -- the line is that of a found touch: its length, its calling, and that is as many equal words as the query has parts
 pub record IsTouchOf (p : ProblemParts) (line : FoundParts) (touch : List ℕ) : Type 0 where
-  pub calling : IsTextOf p line.calling touch
+  pub calling : IsCallingText p line.calling touch
   pub long : line.length ≡ length_of p touch
   pub parts : HasParts p touch
 

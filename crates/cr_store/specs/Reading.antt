@@ -6,7 +6,7 @@ use Rattle.cr_model.specs.Problems.{ProblemParts}
 use Rattle.cr_model.specs.Callings.{HasSteps}
 use Rattle.cr_model.specs.Limits.{most_leads}
 use Rattle.cr_model.specs.Checkpoints.{steps_text, last_node}
-use Rattle.cr_book.specs.Readings.{IsTextOf}
+use Rattle.cr_book.specs.Readings.{IsCallingText}
 use Rattle.cr_store.specs.declared.shape.NodeLine.{NodeLine}
 use Rattle.cr_store.specs.declared.shape.Shape.{Shape}
 use Rattle.cr_store.specs.Shapes.{FoundParts, NodeParts, IsShape, found_line}
@@ -25,8 +25,8 @@ pub record IsRead (shape : Shape) : Type 0 where
 
 -- the calling of a text, or that it is that of none
 abbrev pub TellsCalling : ProblemParts → List ℕ → Option (List ℕ) → Type 0
-TellsCalling p text None = (calling : List ℕ) → IsTextOf p text calling → ⊥
-TellsCalling p text (Some calling) = IsTextOf p text calling
+TellsCalling p text None = (calling : List ℕ) → IsCallingText p text calling → ⊥
+TellsCalling p text (Some calling) = IsCallingText p text calling
 
 -- the touch of a line, or that it is that of none
 abbrev pub TellsTouch : ProblemParts → FoundParts → Option (List ℕ) → Type 0

@@ -4,7 +4,7 @@ use Rattle.cr_model.specs.Checkpoints.{number_line}
 use Rattle.cr_store.specs.Shapes.{ShapeParts, HasShape, IsNumber, line_feeds}
 
 -- some text with a shape begins so
-pub record CanBegin (front : List ℕ) : Type 0 where
+pub record CanBeginShape (front : List ℕ) : Type 0 where
   pub shape : ShapeParts
   pub more : List ℕ
   pub has : HasShape (front ++ more) shape
@@ -16,9 +16,9 @@ pub record IsFirstWrongLine (text : List ℕ) (line : ℕ) : Type 0 where
   pub front : List ℕ
   pub rest : List ℕ
   pub is : text ≡ front ++ rest
-  pub before : CanBegin front
+  pub before : CanBeginShape front
   pub line_is : line ≡ 1 + line_feeds front
-  pub here : (upto others : List ℕ) → text ≡ upto ++ others → line ≤ line_feeds upto → CanBegin upto → ⊥
+  pub here : (upto others : List ℕ) → text ≡ upto ++ others → line ≤ line_feeds upto → CanBeginShape upto → ⊥
 
 -- fewer bytes are left after the second line than it says that the problem has
 pub record IsShort (text : List ℕ) : Type 0 where
@@ -39,5 +39,5 @@ IsFormFault text line = (IsShort text × (line ≡ 2)) ⊎ ((IsShort text → �
 pub record IsFirstWrongPlace (text : List ℕ) (place : ℕ) : Type 0 where
   pub none : (s : ShapeParts) → HasShape text s → ⊥
   pub within : place ≤ length text
-  pub before : CanBegin (take place text)
-  pub here : place < length text → CanBegin (take (place + 1) text) → ⊥
+  pub before : CanBeginShape (take place text)
+  pub here : place < length text → CanBeginShape (take (place + 1) text) → ⊥

@@ -1,4 +1,4 @@
-//! Checkpoints as they are read.
+//! Checkpoints read whole.
 
 ghost use Rattle.std.specs.Prelude.{◌≡◌, ◌≢◌, ◌⊎◌, length, flat_map, Ok, Err, IfOk, IfErr, MatchResult};
 ghost use Rattle.cr_model.specs.Checkpoints.{CheckFile};
@@ -9,7 +9,7 @@ ghost use Rattle.cr_store.specs.ShapeReads.{shape_parts};
 ghost use Rattle.cr_store.specs.Reading.{lines_of_jobs};
 ghost use Rattle.cr_store.specs.Lines.{node_lines_of};
 ghost use Rattle.cr_store.specs.Progress.{Progress, AreJobs, IsMadeOf};
-ghost use Rattle.cr_store.specs.Faults.{FirstCheckFault, OrNoMemory, IsFaultOf};
+ghost use Rattle.cr_store.specs.Faults.{FirstCheckFault, OrNoMemory, IsProblemFaultOf};
 ghost use Rattle.cr_store.specs.Written.{lists};
 
 use crate::fault::CheckFault;
@@ -79,7 +79,7 @@ fn read_whole(alloc: Global, bytes: &[u8]) -> Result<Checkpoint, CheckFault>
 
 // The problem of a file.
 fn problem_of(alloc: Global, bytes: &[u8]) -> Result<Problem, CheckFault>
-    ensures { MatchResult result (ProblemFile bytes.now) (OrNoMemory (IsFaultOf bytes.now)) }
+    ensures { MatchResult result (ProblemFile bytes.now) (OrNoMemory (IsProblemFaultOf bytes.now)) }
 {
     match read_problem(alloc, bytes) {
         Ok(problem) => Ok(problem),

@@ -22,7 +22,7 @@ use std::alloc::Global;
 
 /// What is left of a search: the touches that it found, and the jobs that it has.
 #[derive(Drop)]
-pub struct Left {
+pub struct Remaining {
     /// The found touches. What this crate gives has them ascending by length and then by calling.
     pub found: Vec<Calling>,
     /// The jobs, each a list of nodes that is not empty.
@@ -32,7 +32,7 @@ pub struct Left {
 /// What a board leaves: what it found, in the book's order, and the jobs of its lanes, in the order of the workers, and
 /// then those that are held. They are moved out of the board, and not copied. A search can go on from there, which covers
 /// what the board was opened from; each turn that was spent took one off the size. Err where no memory is left.
-pub fn left_of(alloc: Global, board: Board) -> Result<Left, NoMemory>
+pub fn remaining_of(alloc: Global, board: Board) -> Result<Remaining, NoMemory>
     ensures jobs { IfOk result (λ left. lists left.jobs.items ≡ board_jobs board) }
     ensures found { IfOk result (λ left. IsPermutation board.found left.found.items) }
     ensures goes_on { IfOk result (λ left. CanGoOn board.opening.problem left.found.items (lists left.jobs.items)) }
@@ -42,19 +42,19 @@ pub fn left_of(alloc: Global, board: Board) -> Result<Left, NoMemory>
     let parts = board.into_parts(alloc)?;
     let found = parts.found;
     let jobs = parts.jobs;
-    let left = left_in_order(alloc, parts.opening.problem(), found, jobs)?;
+    let left = remaining_in_order(alloc, parts.opening.problem(), found, jobs)?;
     Ok(left)
 }
 
 /// What is left of a search that found these touches and has these jobs, with the touches in the book's order. They are
 /// moved, and not copied. Where the search went on from other found touches and jobs, a search can go on from there, and
 /// covers the same. Err where no memory is left.
-pub fn left_in_order(
+pub fn remaining_in_order(
     alloc: Global,
     problem: &Problem,
     found: Vec<Calling>,
     jobs: Vec<Vec<Node>>,
-) -> Result<Left, NoMemory>
+) -> Result<Remaining, NoMemory>
     requires { All (Kept problem.now) found.items }
     ensures jobs { IfOk result (λ left. lists left.jobs.items ≡ lists jobs.items) }
     ensures found { IfOk result (λ left. IsPermutation found.items left.found.items) }
@@ -70,18 +70,18 @@ pub fn left_in_order(
     partitions_follow_one_another();
     what_is_sorted_is_the_book();
     let found = sort_found(alloc, problem, found)?;
-    Ok(Left { found, jobs })
+    Ok(Remaining { found, jobs })
 }
 
 /// The same of a board that is not taken apart, whose touches and nodes are copied.
-pub fn copy_left_of(alloc: Global, board: &Board) -> Result<Left, NoMemory>
+pub fn copy_remaining_of(alloc: Global, board: &Board) -> Result<Remaining, NoMemory>
     ensures jobs { IfOk result (λ left. lists left.jobs.items ≡ board_jobs board.now) }
     ensures found { IfOk result (λ left. IsPermutation board.now.found left.found.items) }
     ensures goes_on { IfOk result (λ left. CanGoOn board.now.opening.problem left.found.items (lists left.jobs.items)) }
 {
     let found = copy_callings(alloc, board.found())?;
     let jobs = jobs_of(alloc, board)?;
-    let left = left_in_order(alloc, board.opening().problem(), found, jobs)?;
+    let left = remaining_in_order(alloc, board.opening().problem(), found, jobs)?;
     Ok(left)
 }
 

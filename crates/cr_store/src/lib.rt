@@ -1,4 +1,29 @@
 //! Checkpoints: what a search has found and what is left of it, written and read back.
+//!
+//! A search that stops early writes a checkpoint: the bytes of its problem file, the found touches, and the jobs
+//! that are left. A search that goes on from it covers what the first one covered, and so both come to one book. A
+//! checkpoint is checked as it is read: a text that is none, or from which no search can go on, is refused with its
+//! first fault.
+//!
+//! - [`remaining_of`], [`remaining_in_order`]: what a board leaves, with the touches in the book's order
+//!   ([`Remaining`]).
+//! - [`write_checkpoint`], [`write_parts`]: the checkpoint of what a board leaves, and of found touches and jobs.
+//! - [`read_checkpoint`]: the checkpoint that some bytes are ([`Checkpoint`]), or why they are none
+//!   ([`CheckFault`]).
+//! - [`put_block`], [`next_block`]: texts one after another in one file, each a block with its length ([`Next`]).
+//!
+//! Writing fails only where no memory is left.
+//!
+//! ```rust
+//! // `file` is the problem file of the board's problem.
+//! let problem = board.opening().problem().copy(alloc)?;
+//! let left = remaining_of(alloc, board)?;
+//! let text = write_parts(alloc, &problem, &file, &left.found, &left.jobs)?;
+//!
+//! let again = read_checkpoint(alloc, &text)?;
+//! assert!(rt; again.problem.same(&problem));
+//! assert_eq!(rt; again.jobs.len(), left.jobs.len());
+//! ```
 #![tactic(auto)]
 
 pub mod block_laws;
@@ -10,7 +35,6 @@ mod fault;
 mod items;
 pub mod laws;
 mod lines;
-mod parts;
 mod reading;
 mod shape;
 pub mod shape_laws;
@@ -22,6 +46,6 @@ mod writing;
 
 pub use blocks::{Next, next_block, put_block};
 pub use checkpoint::{Checkpoint, read_checkpoint};
-pub use collecting::{Left, left_in_order, left_of};
+pub use collecting::{Remaining, remaining_in_order, remaining_of};
 pub use fault::CheckFault;
 pub use writing::{write_checkpoint, write_parts};

@@ -1,4 +1,4 @@
-//! The numbers of lines.
+//! On which line of a checkpoint a found touch or a node stands.
 
 ghost use Rattle.std.specs.Prelude.{◌≡◌, ◌+◌, ◌^◌, ◌<◌, length, get_or, flat_map};
 ghost use Rattle.cr_store.specs.ShapeReads.{shape_parts};

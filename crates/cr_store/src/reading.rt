@@ -3,16 +3,17 @@
 ghost use Rattle.std.specs.Prelude.{◌≡◌, ◌↔◌, [], map, All, IsTrue, IfOk};
 ghost use Rattle.cr_model.specs.Callings.{HasSteps, length_of};
 ghost use Rattle.cr_store.specs.ShapeReads.{found_parts, node_parts, shape_parts};
-ghost use Rattle.cr_store.specs.Lines.{HasParts, left_out, node_lines_of};
+ghost use Rattle.cr_query.specs.Meeting.{HasParts};
+ghost use Rattle.cr_store.specs.Lines.{left_out, node_lines_of};
 ghost use Rattle.cr_store.specs.Reading.{TellsCalling, TellsTouch, TellsSteps, TellsJoined, TellsNode, ReadsTouches, ReadsNodes, AddsNodes};
 
-use crate::parts::has_parts;
 use crate::shape::{FoundLine, NodeLine, Shape};
 use crate::texts::{last_of, shared_steps};
 use cr_book::laws::callings_differ_in_their_texts;
 use cr_book::{CallingFault, read_calling};
 use cr_model::{Calling, Problem};
 use cr_node::Node;
+use cr_query::has_parts;
 use cr_row::NoMemory;
 use std::alloc::Global;
 

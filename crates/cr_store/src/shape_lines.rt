@@ -1,4 +1,4 @@
-//! The lines of a checkpoint.
+//! The lines of a checkpoint, as its shape is read.
 
 ghost use Rattle.std.specs.Prelude.{◌≡◌, ℕ, ◌↔◌, List, ◌∷◌, ◌++◌, codes, decimal, IsTrue, IfSome, IfNone};
 ghost use Rattle.std.specs.List.{list_all};

@@ -1,4 +1,4 @@
-//! The lines of a checkpoint.
+//! The lines of a checkpoint, as they are written.
 
 ghost use Rattle.std.specs.Prelude.{◌≡◌, ◌≤◌, [], ◌++◌, length, map, All, IfOk, decimal, codes, flat_map};
 ghost use Rattle.cr_model.specs.Callings.{HasSteps};

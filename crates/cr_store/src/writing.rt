@@ -1,11 +1,11 @@
-//! Checkpoints as they are written.
+//! Checkpoints written whole.
 
 ghost use Rattle.std.specs.Prelude.{◌≡◌, map, IfOk};
 ghost use Rattle.cr_model.specs.ProblemFiles.{ProblemFile};
 ghost use Rattle.cr_model.specs.Checkpoints.{CanGoOn, CheckFile, checkpoint_text};
 ghost use Rattle.cr_store.specs.Written.{lists, IsWritten};
 
-use crate::collecting::copy_left_of;
+use crate::collecting::copy_remaining_of;
 use crate::texts::{write_count, write_found, write_jobs};
 use cr_board::Board;
 use cr_model::{Calling, Problem};
@@ -50,7 +50,7 @@ pub fn write_checkpoint(
     requires { ProblemFile problem_bytes.now board.now.opening.problem }
     ensures { IfOk result (λ text. IsWritten problem_bytes.now board.now text.items) }
 {
-    let left = copy_left_of(alloc, board)?;
+    let left = copy_remaining_of(alloc, board)?;
     write_parts(
         alloc,
         board.opening().problem(),

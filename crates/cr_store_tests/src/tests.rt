@@ -4,7 +4,9 @@ ghost use Rattle.std.specs.Prelude.{◌≡◌, IfOk, OnOk};
 ghost use Rattle.cr_model.specs.ProblemFiles.{ProblemFile};
 
 use cr_board::{Board, Opening};
-use cr_store::{CheckFault, Checkpoint, left_of, read_checkpoint, write_checkpoint, write_parts};
+use cr_store::{
+    CheckFault, Checkpoint, read_checkpoint, remaining_of, write_checkpoint, write_parts,
+};
 use std::alloc::Global;
 use std::test::Fail;
 
@@ -412,7 +414,7 @@ fn boards_are_written(rt: HostRuntime) -> Result<(), Fail> {
     take(alloc, &mut board, 1)?;
     let held = write_checkpoint(alloc, &bytes, &board)?;
     assert!(rt; held.as_slice() == text_of(alloc, "2", "124", DOUBLES, HELD)?.as_slice());
-    let left = left_of(alloc, board)?;
+    let left = remaining_of(alloc, board)?;
     assert!(rt; left.found.len() == 1 && left.jobs.len() == 2);
     Ok(())
 }

@@ -5,7 +5,7 @@ ghost use Rattle.cr_model.specs.declared.reason.Reason.{Reason};
 ghost use Rattle.cr_model.specs.declared.reason.Reason.TheVariants as reason;
 ghost use Rattle.cr_model.specs.Problems.{ProblemParts};
 ghost use Rattle.cr_model.specs.Sound.{IsSound};
-ghost use Rattle.cr_model.specs.Dead.{HasNoneBelow, is_long, is_self_false, is_again, is_home};
+ghost use Rattle.cr_model.specs.Dead.{HasNoneBelow, is_long, is_self_false, is_again, is_round};
 ghost use Rattle.cr_model.specs.Dead.{is_far, is_too_many, is_too_few, is_turned_back, turns_back};
 ghost use Rattle.cr_model.specs.Dead.{holds, dead, IsFirstReason};
 ghost use Rattle.cr_model.specs.Examples.{pair, faulty, asks, marked, lettered, fours, com_from};
@@ -38,13 +38,13 @@ pub fn nothing_is_kept_below_a_node_with_a_row_twice()
 
 /// A node with rounds before its last row, or in its last row where there are several parts, has no kept
 /// touch below it.
-pub fn nothing_is_kept_below_a_node_that_comes_home()
-    ensures { (p : ProblemParts) (node : List ℕ) → IsSound p → is_home p node ≡ true → HasNoneBelow p node }
+pub fn nothing_is_kept_below_a_node_that_comes_round()
+    ensures { (p : ProblemParts) (node : List ℕ) → IsSound p → is_round p node ≡ true → HasNoneBelow p node }
 {}
 
-/// A node that can't come home within the greatest length, however many rows the levels list, has no kept
+/// A node that can't come round within the greatest length, however many rows the levels list, has no kept
 /// touch below it.
-pub fn nothing_is_kept_below_a_node_far_from_home()
+pub fn nothing_is_kept_below_a_node_far_from_rounds()
     ensures { (p : ProblemParts) (most : ℕ) (node : List ℕ) → IsSound p → is_far p most node ≡ true → HasNoneBelow p node }
 {
     change_twice();
@@ -93,7 +93,7 @@ pub fn a_node_is_dead_for_its_first_reason()
 {}
 
 /// The first reason of nodes on both sides of each edge. The steps of `pair` are A plain, A with a call that
-/// comes home at once, and C plain; its levels have three rows in all. `faulty` has a lead with rounds in its
+/// comes round at once, and C plain; its levels have three rows in all. `faulty` has a lead with rounds in its
 /// middle and one with a row twice.
 pub fn nodes_die_at_the_edges()
     ensures long { map (λ high. dead (pair (asks 1 high 3)) 3 (0 ∷ [])) (23 ∷ 24 ∷ []) ≡ Some reason.Long ∷ None ∷ [] }
@@ -102,8 +102,8 @@ pub fn nodes_die_at_the_edges()
         ≡ Some reason.SelfFalse ∷ Some reason.SelfFalse ∷ Some reason.Again ∷ [] }
     ensures again { map (dead (pair (asks 1 24 1)) 3) ((0 ∷ 1 ∷ []) ∷ (1 ∷ 1 ∷ []) ∷ (0 ∷ 0 ∷ []) ∷ [])
         ≡ Some reason.Again ∷ Some reason.Again ∷ None ∷ [] }
-    ensures home { dead (faulty (asks 1 24 1)) 3 (1 ∷ []) ≡ Some reason.Home }
-    ensures home_in_parts { map (λ parts. dead (pair (asks 1 24 parts)) 3 (1 ∷ [])) (1 ∷ 2 ∷ []) ≡ None ∷ Some reason.Home ∷ [] }
+    ensures round { dead (faulty (asks 1 24 1)) 3 (1 ∷ []) ≡ Some reason.Home }
+    ensures round_in_parts { map (λ parts. dead (pair (asks 1 24 parts)) 3 (1 ∷ [])) (1 ∷ 2 ∷ []) ≡ None ∷ Some reason.Home ∷ [] }
     ensures far { map (λ high. dead (pair (asks 1 high 1)) 3 (0 ∷ [])) (23 ∷ 24 ∷ []) ≡ Some reason.Far ∷ None ∷ [] }
 {}
 

@@ -63,8 +63,8 @@ pub fn the_query_has_its_edges()
 {}
 
 /// A plain course and a call alone are true touches. Nothing is none; a lead that ends elsewhere than in
-/// rounds is none; and neither is a calling that comes home twice.
-pub fn true_touches_come_home_once()
+/// rounds is none; and neither is a calling that comes round twice.
+pub fn true_touches_come_round_once()
     ensures touches { All (TrueTouch (pair exact)) ((0 ∷ 0 ∷ 0 ∷ []) ∷ (1 ∷ []) ∷ []) }
     ensures others { All (λ calling. TrueTouch (pair exact) calling → ⊥)
         ([] ∷ (0 ∷ []) ∷ (1 ∷ 1 ∷ []) ∷ (0 ∷ 1 ∷ 0 ∷ 0 ∷ []) ∷ []) }

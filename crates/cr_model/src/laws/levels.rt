@@ -4,7 +4,7 @@ ghost use Rattle.std.specs.Prelude.{◌≡◌, ℕ, ◌+◌, ◌≤◌, ◌↔�
 ghost use Rattle.cr_row.specs.Rows.{rounds};
 ghost use Rattle.cr_model.specs.Problems.{ProblemParts};
 ghost use Rattle.cr_model.specs.Callings.{HasSteps, AllDiffer, changes_of_all};
-ghost use Rattle.cr_model.specs.Levels.{head_from, LeadsHome, IsLevel, HasRoom, level, up_to_level, depth, at_least};
+ghost use Rattle.cr_model.specs.Levels.{head_from, LeadsToRounds, IsLevel, HasRoom, level, up_to_level, depth, at_least};
 ghost use Rattle.cr_model.specs.Examples.{minimus, doubles};
 
 use cr_row::change_twice;
@@ -14,7 +14,7 @@ use cr_row::change_twice;
 pub fn levels_list_rows()
     ensures level { (p : ProblemParts) (leads : ℕ) (row : List ℕ) → Contains (level p leads) row ↔ IsLevel p leads row }
     ensures up_to { (p : ProblemParts) (leads : ℕ) (row : List ℕ)
-        → Contains (up_to_level p leads) row ↔ ((fewer : ℕ) × (fewer ≤ leads) × LeadsHome p fewer row) }
+        → Contains (up_to_level p leads) row ↔ ((fewer : ℕ) × (fewer ≤ leads) × LeadsToRounds p fewer row) }
     ensures once { (p : ProblemParts) (leads : ℕ) → AllDiffer (up_to_level p leads) }
 {
     change_twice();
@@ -29,7 +29,7 @@ pub fn the_depth_is_greatest()
 
 /// A row's least number of leads is its level, where that is at most the depth, and else one more than the
 /// depth; and no calling of fewer leads goes from it to rounds.
-pub fn no_fewer_leads_lead_home()
+pub fn no_fewer_leads_lead_to_rounds()
     ensures listed { (p : ProblemParts) (most : ℕ) (row : List ℕ) (leads : ℕ)
         → IsLevel p leads row → leads ≤ depth p most → at_least p most row ≡ leads }
     ensures others { (p : ProblemParts) (most : ℕ) (row : List ℕ)

@@ -4,7 +4,7 @@ ghost use Rattle.std.specs.Prelude.{◌≡◌, ◌↔◌, ℕ, true, List, ◌++
 ghost use Rattle.cr_model.specs.Problems.{ProblemParts};
 ghost use Rattle.cr_model.specs.Callings.{length_of, TrueTouch};
 ghost use Rattle.cr_model.specs.Touches.{Wanted, IsRotation, IsLess, Kept};
-ghost use Rattle.cr_model.specs.Turning.{TurnsBack};
+ghost use Rattle.cr_model.specs.LeastRotations.{TurnsBack};
 ghost use Rattle.cr_model.specs.Dead.{turns_back, turn_free};
 
 use cr_row::{

@@ -37,7 +37,7 @@ pub fn reasons(
         length > problem.part_cap(),
         !last.distinct,
         !rung.distinct,
-        is_home(problem, &rung),
+        is_round(problem, &rung),
         is_far(problem, reach, &rung.rows),
         has_too_many(problem, node),
         has_too_few(problem, node, left),
@@ -72,9 +72,9 @@ fn ring(alloc: Global, leads: &LeadTable, steps: &[u8]) -> Result<Rung, Fail> {
     }
 }
 
-fn is_home(problem: &Problem, rung: &Rung) -> bool {
+fn is_round(problem: &Problem, rung: &Rung) -> bool {
     let before = &rung.rows[..rung.rows.len().saturating_sub(1)];
-    before.contains(&Row::rounds(problem.stage())) || rung.home && problem.query().parts > 1
+    before.contains(&Row::rounds(problem.stage())) || rung.round && problem.query().parts > 1
 }
 
 fn is_far(problem: &Problem, reach: &ReachTable, rows: &[Row]) -> bool {

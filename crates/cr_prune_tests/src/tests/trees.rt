@@ -39,7 +39,7 @@ fn visit(
 }
 
 // Whether the walk says as well if a row of its node comes again, and if all rows of the touch differ, where it comes
-// home.
+// rounds.
 fn tells_rows(
     alloc: Global,
     problem: &Problem,
@@ -49,14 +49,14 @@ fn tells_rows(
 ) -> Result<bool, Fail>
     requires { walk.now.problem ≡ problem.now }
 {
-    if again || walk.has_repeat() || !comes_home(problem, walk) {
+    if again || walk.has_repeat() || !comes_round(problem, walk) {
         return Ok(walk.has_repeat() == again);
     }
     Ok(walk.parts_differ() == touch_differs(alloc, problem, leads, walk.steps())?)
 }
 
-// Whether the node's touch comes home.
-fn comes_home(problem: &Problem, walk: &Walk) -> bool
+// Whether the node's touch comes round.
+fn comes_round(problem: &Problem, walk: &Walk) -> bool
     requires { walk.now.problem ≡ problem.now }
     ensures { IsTrue result → head_of walk.now.problem (touch_of walk.now.problem walk.now.node) ≡ rounds walk.now.problem.stage }
 {

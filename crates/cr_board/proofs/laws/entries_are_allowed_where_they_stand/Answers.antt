@@ -1,6 +1,6 @@
 use Rattle.std.proofs.Common.{◌≡◌, ℕ, zero, suc, ◌≤◌, [], ◌∷◌, Contains, Option, Some, refl, sym, ap, arith}
 use Rattle.std.proofs.lemmas.Option.{none-some, same_Some}
-use Rattle.cr_board.specs.Halls.{Grip}
+use Rattle.cr_board.specs.ReplayStates.{Hold}
 use Rattle.cr_board.proofs.laws.entries_are_allowed_where_they_stand.Goals as goal
 
 -- job 1 is not where job 0 stands alone
@@ -8,19 +8,19 @@ not_there : Contains {X = ℕ} (0 ∷ []) 1 → ⊥
 not_there (zero, inside, at) = absurd (omega (arith, at))
 not_there (suc k, inside, at) = absurd (omega (arith, inside))
 
--- a grip that is job 1 with all turns has its number and its grant
-grip_is : (grip : Grip) → ◌≡◌ {A = Option Grip} (Some (record { number = 1; grant = 4096 })) (Some grip) → (1 ≡ grip.number) × (4096 ≡ grip.grant)
-grip_is grip same =
-    let is = same_Some (record { number = 1; grant = 4096 }) grip same in
+-- a hold that is job 1 with all turns has its number and its grant
+hold_is : (hold : Hold) → ◌≡◌ {A = Option Hold} (Some (record { number = 1; grant = 4096 })) (Some hold) → (1 ≡ hold.number) × (4096 ≡ hold.grant)
+hold_is hold same =
+    let is = same_Some (record { number = 1; grant = 4096 }) hold same in
     (ap (λ g. g.number) is, ap (λ g. g.grant) is)
 
 -- it can't be used for a turn more
-not_over : (grant : ℕ) → ◌≡◌ {A = Option Grip} (Some (record { number = 1; grant = 4096 })) (Some (record { number = 1; grant = grant })) → 4097 ≤ grant → ⊥
-not_over grant same enough = absurd (omega (arith, enough, (grip_is (record { number = 1; grant = grant }) same).1))
+not_over : (grant : ℕ) → ◌≡◌ {A = Option Hold} (Some (record { number = 1; grant = 4096 })) (Some (record { number = 1; grant = grant })) → 4097 ≤ grant → ⊥
+not_over grant same enough = absurd (omega (arith, enough, (hold_is (record { number = 1; grant = grant }) same).1))
 
 -- and is not job 0
-not_other : (grant : ℕ) → ◌≡◌ {A = Option Grip} (Some (record { number = 1; grant = 4096 })) (Some (record { number = 0; grant = grant })) → ⊥
-not_other grant same = absurd (omega (arith, (grip_is (record { number = 0; grant = grant }) same).0))
+not_other : (grant : ℕ) → ◌≡◌ {A = Option Hold} (Some (record { number = 1; grant = 4096 })) (Some (record { number = 0; grant = grant })) → ⊥
+not_other grant same = absurd (omega (arith, (hold_is (record { number = 0; grant = grant }) same).0))
 
 pub returns : goal.returns
 returns c = record {

@@ -1,5 +1,5 @@
 use Rattle.cr_board.proofs.Replaying.{opened_replayed}
-use Rattle.cr_board.proofs.HallFacts.{number_once, budget_kept}
+use Rattle.cr_board.proofs.ReplayFacts.{number_once, budget_kept}
 use Rattle.cr_board.proofs.laws.journals_tell_boards.Goals as goal
 
 pub returns-clause-opened : goal.returns-clause-opened

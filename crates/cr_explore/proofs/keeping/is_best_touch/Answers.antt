@@ -20,9 +20,9 @@ returns-then-not-may_be_kept g c = (
 pub has_different_rows-requires-clause-sound : goal.has_different_rows-requires-clause-sound
 has_different_rows-requires-clause-sound g c = subst IsSound (sym c.requires.same) c.stage.ensures.sound
 
-pub has_different_rows-requires-clause-home : goal.has_different_rows-requires-clause-home
-has_different_rows-requires-clause-home g c =
-    subst (λ (p : ProblemParts). head_of p (touch_of p c.args.walk.now.node) ≡ rounds p.stage) (sym c.requires.same) (c.may_be_kept.ensures.0 c.if-not-may_be_kept.false).home.1
+pub has_different_rows-requires-clause-round : goal.has_different_rows-requires-clause-round
+has_different_rows-requires-clause-round g c =
+    subst (λ (p : ProblemParts). head_of p (touch_of p c.args.walk.now.node) ≡ rounds p.stage) (sym c.requires.same) (c.may_be_kept.ensures.0 c.if-not-may_be_kept.false).round.1
 
 pub returns-then-not-has_different_rows : goal.returns-then-not-has_different_rows
 returns-then-not-has_different_rows g c = (

@@ -9,7 +9,7 @@ use Rattle.cr_explore.specs.Stacks.{place_at, stack_of, IsTaken, IsPathEnded}
 use Rattle.cr_explore.specs.Turns.{after_turns}
 use Rattle.cr_explore.proofs.OneTest.{where_ok}
 use Rattle.cr_explore.proofs.Places.{job_taken}
-use Rattle.cr_explore.proofs.Taking.{Went, so_far, starts, goes_on, ends}
+use Rattle.cr_explore.proofs.Taking.{RunProgress, so_far, starts, goes_on, ends}
 use Rattle.cr_explore.proofs.search.take_turns.Goals as goal
 use Rattle.cr_explore.proofs.search.take_turns.Goals.{then-not-descend+else-left-eq0, else-not-descend, else-loop-used-test, then-loop-used-test+then-not-descend+then-left-eq0}
 
@@ -36,7 +36,7 @@ loop-used-preserved g c =
     let from = g.P.Path.node_of c.loop-used.path in
     let before = place_at c.loop-used.left c.loop-used.base (g.P.Path.next_of c.loop-used.path) in
     let to = g.P.Path.node_of c.if-not-descend.path in
-    let Now = λ (path : g.row.P.Denot) (left base : ℕ). Went p most_rows job before from (g.P.Path.problem_of path) left base (g.P.Path.next_of path) (g.P.Path.node_of path) in
+    let Now = λ (path : g.row.P.Denot) (left base : ℕ). RunProgress p most_rows job before from (g.P.Path.problem_of path) left base (g.P.Path.next_of path) (g.P.Path.node_of path) in
     let down = g.P.Path.problem_of c.descend.new.path in
     let went : down ≡ p = c.descend.ensures.problem ∙ c.loop-used.invariant.problem in
     let goes : Now c.if-not-descend.path c.if-not-descend.left c.if-not-descend.base = elim c.if-not-descend.branch [

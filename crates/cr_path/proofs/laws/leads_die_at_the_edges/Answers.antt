@@ -10,11 +10,11 @@ returns c = record {
   long = ap (λ (leads : ℕ). map (λ rung. nat_lt 12 (rung + 8) || nat_lt 24 (rung + 8 + 8 * leads)) (4 ∷ 5 ∷ []))
       (one_away (record {
         level = c.levels_list_rows.ensures.level;
-        listed = c.no_fewer_leads_lead_home.ensures.listed;
+        listed = c.no_fewer_leads_lead_to_rounds.ensures.listed;
         greatest = c.the_depth_is_greatest.ensures.greatest;
       }) (asks 1 24 2));
-  home_last = refl;
-  home_before = refl;
+  round_last = refl;
+  round_before = refl;
   away = refl;
   twice = refl;
 }

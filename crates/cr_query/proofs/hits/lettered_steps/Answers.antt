@@ -9,4 +9,4 @@ loop-step-init c = no_steps (λ step. nat_eq (letter_of c.args.problem.now step)
 pub loop-step-preserved : goal.loop-step-preserved
 loop-step-preserved c =
     more_steps (λ step. nat_eq (letter_of c.args.problem.now step) c.args.letter) c.loop-step.step c.loop-step.set c.with_step-set.result c.loop-step.invariant
-    (rw c.kind_of.ensures at c.with_step-set.ensures)
+    (rw c.kind_of.ensures at c.with_step-set.ensures.put)

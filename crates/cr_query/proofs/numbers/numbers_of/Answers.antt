@@ -7,8 +7,8 @@ returns-clause-small c =
     let p = c.args.problem.now in
     let sound = c.query.ensures.sound in
     record {
-      some_parts = omega (arith, c.parts_of.ensures.some);
-      few_parts = omega (arith, c.parts_of.ensures.few);
+      some_parts = omega (arith, c.parts.ensures.some);
+      few_parts = omega (arith, c.parts.ensures.few);
       some_changes = omega (arith, c.shortest.ensures.some);
       short = omega (arith, c.cap.ensures, cap_short p sound);
       short_part = omega (arith, c.part_cap.ensures, part_cap_short p sound);

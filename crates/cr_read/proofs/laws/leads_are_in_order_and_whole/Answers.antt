@@ -3,4 +3,4 @@ use Rattle.cr_read.proofs.TheSteps.{exactly_leads}
 use Rattle.cr_read.proofs.laws.leads_are_in_order_and_whole.Goals as goal
 
 pub returns : goal.returns
-returns c = record { order = λ file n tunes pass some. leads_right file n tunes pass some; whole = λ file n tunes pass lead. exactly_leads file n tunes pass lead }
+returns c = record { order = λ file n spellings pass some. leads_right file n spellings pass some; whole = λ file n spellings pass lead. exactly_leads file n spellings pass lead }

@@ -1,5 +1,5 @@
 use Rattle.std.proofs.Common.{arith}
-use Rattle.cr_store.proofs.Telling.{accepts, refuses}
+use Rattle.cr_store.proofs.OneTold.{accepts, refuses}
 use Rattle.cr_store.proofs.checkpoint.read_checkpoint.Goals as goal
 
 pub returns-clause-accepts : goal.returns-clause-accepts

@@ -1,7 +1,7 @@
 use Rattle.std.proofs.Common.{◌≤◌, IfSome, sym, ◌∙◌, subst, arith}
 use Rattle.cr_board.specs.Boards.{BoardParts, promised}
 use Rattle.cr_board.specs.Rooms.{parts_of}
-use Rattle.cr_board.proofs.HallFacts.{Within, within_some}
+use Rattle.cr_board.proofs.ReplayFacts.{Within, within_some}
 use Rattle.cr_board.proofs.Replaying.{promised_within}
 use Rattle.cr_board.proofs.board.Board.turns_left.Goals as goal
 

@@ -7,7 +7,7 @@ pub returns-clause-is : goal.returns-clause-is
 returns-clause-is c = λ p is.
     told c.args.self.now p c.args.calling.now _ c.stage.ensures.sound is c.requires
     (c.in_ok-rows.ensures.is p is ∙ ap (rows_of p) c.steps.ensures.is)
-    (rw (c.deref.ensures.value, c.stage.ensures.is) at c.ends_in_rounds-home.ensures)
+    (rw (c.deref.ensures.value, c.stage.ensures.is) at c.ends_in_rounds-round.ensures)
     (rw c.deref-2.ensures.value at c.in_ok-distinct.ensures)
 
 pub rows_differ-requires : goal.rows_differ-requires

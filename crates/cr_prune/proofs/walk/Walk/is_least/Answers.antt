@@ -1,6 +1,6 @@
 use Rattle.std.proofs.Common.{◌↔◌, subst}
 use Rattle.std.specs.Prelude.{IsTrue}
-use Rattle.cr_model.specs.Turning.{IsLeastRotation}
+use Rattle.cr_model.specs.LeastRotations.{IsLeastRotation}
 use Rattle.cr_prune.specs.Walks.{WalkParts}
 use Rattle.cr_prune.proofs.walk.Walk.is_least.Goals as goal
 

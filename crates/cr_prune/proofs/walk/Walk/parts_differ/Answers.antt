@@ -19,10 +19,10 @@ pub returns : goal.returns
 returns c =
     let p = c.self.inside.problem.now in
     let node = c.self.inside.steps in
-    let home : head_of p (touch_of p node) ≡ rounds p.stage =
-    subst (λ (w : WalkParts). head_of w.problem (touch_of w.problem w.node) ≡ rounds w.problem.stage) (sym c.self.view_is) c.requires.home in
+    let round : head_of p (touch_of p node) ≡ rounds p.stage =
+    subst (λ (w : WalkParts). head_of w.problem (touch_of w.problem w.node) ≡ rounds w.problem.stage) (sym c.self.view_is) c.requires.round in
     touch_told p node c.self.inside.first.fresh c.last-head.result.head c.steps-node.result.now c.parts_to_ring-parts.result c.bring_new_rows.result
-    c.self.invariant.first.are_fresh (ap (λ (w : WalkParts). rows_differ (rows_of w.problem w.node)) c.self.view_is ∙ c.requires.fresh) home
+    c.self.invariant.first.are_fresh (ap (λ (w : WalkParts). rows_differ (rows_of w.problem w.node)) c.self.view_is ∙ c.requires.fresh) round
     (ap (λ (e : LeadEnd). e.head) (c.last-head.ensures p node c.self.invariant.ends)) c.steps-node.ensures.is
     c.parts_to_ring-parts.ensures.within c.parts_to_ring-parts.ensures.enough c.bring_new_rows.ensures
     ∙ ap (λ (w : WalkParts). rows_differ (rows_of w.problem (touch_of w.problem w.node))) c.self.view_is

@@ -1,7 +1,7 @@
 use Rattle.std.proofs.Common.{ap, ◌∙◌}
 use Rattle.cr_query.specs.Meters.{MeterParts, marks_now, letters_now, changes_now, has_too_few_leads}
 use Rattle.cr_query.proofs.Sizes.{parts_some}
-use Rattle.cr_query.proofs.Tellings.{few_told, room_is}
+use Rattle.cr_query.proofs.Told.{few_told, room_is}
 use Rattle.cr_query.proofs.Metering.{whole}
 use Rattle.cr_query.proofs.meter.Meter.has_too_few_leads.Goals as goal
 

@@ -6,7 +6,7 @@ use Rattle.cr_query.specs.Gauges.{has_fewer_rows}
 use Rattle.cr_query.specs.Meters.{MeterParts, fitted, has_too_few_rows}
 use Rattle.cr_query.specs.Tallies.{fittings_at}
 use Rattle.cr_query.proofs.Metering.{whole_rows}
-use Rattle.cr_query.proofs.Tellings.{any_mapped}
+use Rattle.cr_query.proofs.Told.{any_mapped}
 use Rattle.cr_query.proofs.meter.Meter.has_too_few_rows.Goals as goal
 
 pub returns : goal.returns

@@ -4,7 +4,7 @@ use Rattle.cr_model.specs.Dead.{is_too_many}
 use Rattle.cr_query.specs.Gauges.{has_more_rows}
 use Rattle.cr_query.specs.Meters.{MeterParts, fitted, has_too_many_leads}
 use Rattle.cr_query.specs.Tallies.{fittings_at}
-use Rattle.cr_query.proofs.Tellings.{many_in_order}
+use Rattle.cr_query.proofs.Told.{many_in_order}
 use Rattle.cr_query.proofs.Metering.{whole_rows}
 use Rattle.cr_query.proofs.meter.Meter.has_too_many.Goals as goal
 

@@ -11,7 +11,7 @@ loop-step-init c = no_steps (λ step. is_hopeless_by_leads c.args.self.now.probl
 pub loop-step-preserved : goal.loop-step-preserved
 loop-step-preserved c =
     more_steps (λ step. is_hopeless_by_leads c.args.self.now.problem (child c.args.self.now.node step)) c.loop-step.step c.loop-step.set c.with_step-set.result c.loop-step.invariant
-    (rw c.is_hopeless_with.ensures at c.with_step-set.ensures)
+    (rw c.is_hopeless_with.ensures at c.with_step-set.ensures.put)
 
 pub returns-clause-each : goal.returns-clause-each
 returns-clause-each c step known =

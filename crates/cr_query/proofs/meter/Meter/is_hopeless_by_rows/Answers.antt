@@ -8,7 +8,7 @@ use Rattle.cr_query.specs.Meters.{MeterParts, fitted, is_hopeless_by_leads, is_h
 use Rattle.cr_query.specs.Tallies.{fittings_at}
 use Rattle.cr_query.proofs.Asked.{by_rows}
 use Rattle.cr_query.proofs.Metering.{whole_rows}
-use Rattle.cr_query.proofs.Tellings.{any_mapped, any_either}
+use Rattle.cr_query.proofs.Told.{any_mapped, any_either}
 use Rattle.cr_query.proofs.meter.Meter.is_hopeless_by_rows.Goals as goal
 
 pub returns-clause-is : goal.returns-clause-is

@@ -7,7 +7,7 @@ use Rattle.cr_reach.proofs.table.ReachTable.at_least.Goals as goal
 
 pub returns-in-Some : goal.returns-in-Some
 returns-in-Some c =
-    let laws : LevelLaws = record { level = c.levels_list_rows.ensures.level; listed = c.no_fewer_leads_lead_home.ensures.listed; others = c.no_fewer_leads_lead_home.ensures.others } in
+    let laws : LevelLaws = record { level = c.levels_list_rows.ensures.level; listed = c.no_fewer_leads_lead_to_rounds.ensures.listed; others = c.no_fewer_leads_lead_to_rounds.ensures.others } in
     let place = c.in-Some.place in
     let stands = c.in-Some.ensures.some in
     let inside : place < length c.self.inside.levels.items = omega (arith, stands.within, c.self.invariant.counted) in
@@ -18,7 +18,7 @@ returns-in-Some c =
 
 pub returns-in-None : goal.returns-in-None
 returns-in-None c =
-    let laws : LevelLaws = record { level = c.levels_list_rows.ensures.level; listed = c.no_fewer_leads_lead_home.ensures.listed; others = c.no_fewer_leads_lead_home.ensures.others } in
+    let laws : LevelLaws = record { level = c.levels_list_rows.ensures.level; listed = c.no_fewer_leads_lead_to_rounds.ensures.listed; others = c.no_fewer_leads_lead_to_rounds.ensures.others } in
     found_nowhere laws c.args.self.now c.args.head.now (c.self.inside.depth + 1)
     (subst (λ (t : ReachParts). Contains t.rows c.args.head.now → ⊥) c.self.view_is (c.in-None.ensures.none refl))
     (ap (λ (t : ReachParts). t.depth + 1) c.self.view_is)

@@ -14,9 +14,9 @@ use Rattle.cr_model.specs.ProblemFiles.{mark_at, OverIsRight, MarkIsRight, FitsA
 use Rattle.cr_notation.specs.Reading.{read_all, read_from, byte_step, step, place_step, cross_step, dot_step, comma_step, end_step, closed}
 use Rattle.cr_read.specs.Examples.{stage_line, method_lines, call_lines, query_lines, in_pieces, doubles_with}
 use Rattle.cr_read.proofs.ByExample.{each, is_file, spelled, unspelled}
-use Rattle.cr_read.proofs.OneMethod.{file_of_one, tunes_of_one, letters_pass, method_spells, marks_pass}
+use Rattle.cr_read.proofs.OneMethod.{file_of_one, spellings_of_one, letters_pass, method_spells, marks_pass}
 use Rattle.cr_read.proofs.DoublesRead as doubles
-use Rattle.cr_read.proofs.DoublesRead.{bob, file_with, plain_tune, bob_tune, method_read, call_read, spell}
+use Rattle.cr_read.proofs.DoublesRead.{bob, file_with, plain_spelling, bob_spelling, method_read, call_read, spell}
 use Rattle.cr_read.proofs.DoublesKept.{asked, none}
 use Rattle.cr_read.proofs.laws.examples.faults_of_methods_and_calls.Goals as goal
 
@@ -69,19 +69,19 @@ of_six = record { mark = codes "b"; notation = codes "146"; over = None; methods
 call_wrong : IsFileFault (file_with of_six asked) (fault.Notation (whose.Call 0) (notation.Above 2))
 call_wrong = (
   5,
-  plain_tune ∷ [],
-  method_spells 5 (omega arith) (omega arith) doubles.notation plain_tune method_read (of_six ∷ []) [] asked,
+  plain_spelling ∷ [],
+  method_spells 5 (omega arith) (omega arith) doubles.notation plain_spelling method_read (of_six ∷ []) [] asked,
   record { within = omega arith; before = λ j h. absurd (omega arith); wrong = unspelled 5 (codes "146") _ no_sixth },
 )
 
 over_wrong : (over : ℤ) → ((pos 0 ≤ℤ over) × (over ≤ℤ pos 128) → ⊥) → IsFileFault (file_with (bob (codes "b") (Some over) None) asked) (fault.Over 0)
 over_wrong over wrong =
-    (5, doubles.tunes, spell (codes "b") (Some over) None asked, record { within = omega arith; before = none _; wrong = wrong })
+    (5, doubles.spellings, spell (codes "b") (Some over) None asked, record { within = omega arith; before = none _; wrong = wrong })
 
 mark_wrong : IsFileFault (file_with (bob (codes "p") None None) asked) (fault.Mark 0)
 mark_wrong = (
   5,
-  doubles.tunes,
+  doubles.spellings,
   record { before = spell (codes "p") None None asked; overs = each (OverIsRight (file_with (bob (codes "p") None None) asked)) 1 (tt, tt) },
   record { within = omega arith; before = none _; wrong = λ right. right.called refl },
 )
@@ -93,21 +93,21 @@ two_changes = record { mark = codes "b"; notation = codes "5.145"; over = None; 
 abbrev short_file : FileParts
 short_file = file_of_one 5 (codes "5") (two_changes ∷ []) asked
 
-abbrev short_tune : List Places
-short_tune = map on_five ((5 ∷ []) ∷ [])
+abbrev short_spelling : List Places
+short_spelling = map on_five ((5 ∷ []) ∷ [])
 
 abbrev long_call : List Places
 long_call = map on_five ((5 ∷ []) ∷ (1 ∷ 4 ∷ 5 ∷ []) ∷ [])
 
-short_read : (read_all 5 (codes "5") ≡ Ok short_tune) × (read_all 5 (codes "5.145") ≡ Ok long_call)
+short_read : (read_all 5 (codes "5") ≡ Ok short_spelling) × (read_all 5 (codes "5.145") ≡ Ok long_call)
 unfolding read_all read_from byte_step step place_step cross_step dot_step comma_step end_step closed
 short_read = (refl, refl)
 
 call_long : IsFileFault short_file (fault.CallLength 0 0)
 call_long = (
   5,
-  tunes_of_one short_tune (long_call ∷ []),
-  marks_pass 5 (omega arith) (omega arith) (codes "5") short_tune short_read.0 (two_changes ∷ []) (long_call ∷ []) asked
+  spellings_of_one short_spelling (long_call ∷ []),
+  marks_pass 5 (omega arith) (omega arith) (codes "5") short_spelling short_read.0 (two_changes ∷ []) (long_call ∷ []) asked
       (spelled 5 (codes "5.145") long_call short_read.1, tt)
       (each (OverIsRight short_file) 1 (tt, tt))
       (each (λ call. MarkIsRight (mark_at short_file call)) 1 (tt, record { from = omega arith; to = omega arith; called = λ e. absurd (omega (arith, e)) })),
@@ -125,20 +125,20 @@ bob_marked = each (λ call. MarkIsRight (mark_at twice call)) 2 (
   record { from = omega arith; to = omega arith; called = λ e. absurd (omega (arith, e)) },
 )
 
-twice_fits : (call : ℕ) → call < 2 → FitsAll twice (tunes_of_one plain_tune (bob_tune ∷ bob_tune ∷ [])) call
-twice_fits = each (FitsAll twice (tunes_of_one plain_tune (bob_tune ∷ bob_tune ∷ []))) 2 (
-  (tt, each (Suits twice (tunes_of_one plain_tune (bob_tune ∷ bob_tune ∷ [])) 0) 1 (tt, λ named. record { over = omega arith; short = omega arith })),
-  each (Suits twice (tunes_of_one plain_tune (bob_tune ∷ bob_tune ∷ [])) 1) 1 (tt, λ named. record { over = omega arith; short = omega arith }),
+twice_fits : (call : ℕ) → call < 2 → FitsAll twice (spellings_of_one plain_spelling (bob_spelling ∷ bob_spelling ∷ [])) call
+twice_fits = each (FitsAll twice (spellings_of_one plain_spelling (bob_spelling ∷ bob_spelling ∷ []))) 2 (
+  (tt, each (Suits twice (spellings_of_one plain_spelling (bob_spelling ∷ bob_spelling ∷ [])) 0) 1 (tt, λ named. record { over = omega arith; short = omega arith })),
+  each (Suits twice (spellings_of_one plain_spelling (bob_spelling ∷ bob_spelling ∷ [])) 1) 1 (tt, λ named. record { over = omega arith; short = omega arith }),
 )
 
 calls_clash : IsFileFault twice (fault.Clash 0 1)
 calls_clash = (
   5,
-  tunes_of_one plain_tune (bob_tune ∷ bob_tune ∷ []),
+  spellings_of_one plain_spelling (bob_spelling ∷ bob_spelling ∷ []),
   record {
-    before = marks_pass 5 (omega arith) (omega arith) doubles.notation plain_tune method_read (plain_bob ∷ plain_bob ∷ [])
-        (bob_tune ∷ bob_tune ∷ []) asked
-        (spelled 5 (codes "145") bob_tune call_read, (spelled 5 (codes "145") bob_tune call_read, tt))
+    before = marks_pass 5 (omega arith) (omega arith) doubles.notation plain_spelling method_read (plain_bob ∷ plain_bob ∷ [])
+        (bob_spelling ∷ bob_spelling ∷ []) asked
+        (spelled 5 (codes "145") bob_spelling call_read, (spelled 5 (codes "145") bob_spelling call_read, tt))
         (each (OverIsRight twice) 2 ((tt, tt), tt)) bob_marked;
     fits = twice_fits;
   },

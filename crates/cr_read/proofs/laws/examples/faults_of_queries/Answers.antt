@@ -17,11 +17,11 @@ use Rattle.cr_model.specs.Keys.{key_faults}
 use Rattle.cr_model.specs.Problems.{PatternParts}
 use Rattle.cr_model.specs.Right.{LimitsAreRight, CountIsRight, MethodCountIsRight, PatternIsRight}
 use Rattle.cr_model.specs.Files.{FileParts, Limited, CallText}
-use Rattle.cr_model.specs.ProblemFiles.{Tunes, mark_at, parts_of, MakesWrong, OverIsRight, MarkIsRight, FitsAll, Suits, IsApart, CallsPass}
+use Rattle.cr_model.specs.ProblemFiles.{Spellings, mark_at, parts_of, MakesWrong, OverIsRight, MarkIsRight, FitsAll, Suits, IsApart, CallsPass}
 use Rattle.cr_notation.specs.Reading.{read_all, read_from, byte_step, step, place_step, cross_step, dot_step, comma_step, end_step, closed}
 use Rattle.cr_read.specs.Examples.{stage_line, method_lines, call_lines, in_pieces, doubles_with, eight_methods}
 use Rattle.cr_read.proofs.ByExample.{each, is_file, spelled, later_checks, makes_wrong}
-use Rattle.cr_read.proofs.OneMethod.{Asked, file_of_one, tunes_of_one, marks_pass}
+use Rattle.cr_read.proofs.OneMethod.{Asked, file_of_one, spellings_of_one, marks_pass}
 use Rattle.cr_read.proofs.DoublesRead as doubles
 use Rattle.cr_read.proofs.DoublesRead.{bob, file_with, doubles_pass}
 use Rattle.cr_read.proofs.DoublesKept.{asked, none}
@@ -32,12 +32,12 @@ use Rattle.cr_read.proofs.laws.examples.faults_of_queries.Goals as goal
 abbrev file : Asked → FileParts
 file query = file_with (bob (codes "b") None None) query
 
-wrong_query : (query : Asked) (why : PartFault) → IsFirstFailure (later_checks (parts_of 5 (file query) doubles.tunes)) why → MakesWrong (file query) why
-wrong_query query why first = makes_wrong (file query) 5 doubles.tunes (doubles_pass None None tt refl query) (omega arith) why first
+wrong_query : (query : Asked) (why : PartFault) → IsFirstFailure (later_checks (parts_of 5 (file query) doubles.spellings)) why → MakesWrong (file query) why
+wrong_query query why first = makes_wrong (file query) 5 doubles.spellings (doubles_pass None None tt refl query) (omega arith) why first
 
 -- more steps than 24
 many_steps : MakesWrong eight.file (part.Steps 32)
-many_steps = makes_wrong eight.file 5 eight.tunes eight.eight_pass (omega arith) (part.Steps 32) (inl (refl, λ few. (let most : 32 ≤ 24 = few in omega arith)))
+many_steps = makes_wrong eight.file 5 eight.spellings eight.eight_pass (omega arith) (part.Steps 32) (inl (refl, λ few. (let most : 32 ≤ 24 = few in omega arith)))
 
 -- from no changes on
 range_wrong : MakesWrong (file (record asked { min = pos 0 })) (part.Range (pos 0) (pos 120))
@@ -66,17 +66,17 @@ short_read : (read_all 8 (codes "x") ≡ Ok cross) × (read_all 8 (codes "18") �
 unfolding read_all read_from byte_step step place_step cross_step dot_step comma_step end_step closed
 short_read = (refl, refl)
 
-abbrev deep_tunes : Tunes
-deep_tunes = tunes_of_one cross (ends ∷ [])
+abbrev deep_spellings : Spellings
+deep_spellings = spellings_of_one cross (ends ∷ [])
 
-deep_pass : CallsPass deep_file 8 deep_tunes
+deep_pass : CallsPass deep_file 8 deep_spellings
 deep_pass = record {
   before = record {
     before = marks_pass 8 (omega arith) (omega arith) (codes "x") cross short_read.0 (short_call ∷ []) (ends ∷ []) deep_asked
         (spelled 8 (codes "18") ends short_read.1, tt)
         (each (OverIsRight deep_file) 1 (tt, tt))
         (each (λ call. MarkIsRight (mark_at deep_file call)) 1 (tt, record { from = omega arith; to = omega arith; called = λ e. absurd (omega (arith, e)) }));
-    fits = each (FitsAll deep_file deep_tunes) 1 (tt, each (Suits deep_file deep_tunes 0) 1 (tt, λ named. record { over = omega arith; short = omega arith }));
+    fits = each (FitsAll deep_file deep_spellings) 1 (tt, each (Suits deep_file deep_spellings 0) 1 (tt, λ named. record { over = omega arith; short = omega arith }));
   };
   apart = each (IsApart deep_file) 1 (tt, λ first h. absurd (omega arith));
 }
@@ -86,7 +86,7 @@ deep_range = record { from = omega (arith, ints); order = omega (arith, ints); t
 
 deep_wrong : MakesWrong deep_file (part.Deep 1025)
 unfolding extent
-deep_wrong = makes_wrong deep_file 8 deep_tunes deep_pass (omega arith) (part.Deep 1025)
+deep_wrong = makes_wrong deep_file 8 deep_spellings deep_pass (omega arith) (part.Deep 1025)
     (inr (omega arith, inr (deep_range, inl (refl, λ few. (let most : 1025 ≤ 1024 = few in omega arith)))))
 
 -- lengths that are right, and what is wrong behind them

@@ -7,7 +7,7 @@ use Rattle.cr_model.specs.Queries.{extent}
 use Rattle.cr_model.specs.Checks.{AllHold}
 use Rattle.cr_read.specs.Examples.{two_methods, two_methods_with}
 use Rattle.cr_read.proofs.ByExample.{is_file, is_problem, later_checks}
-use Rattle.cr_read.proofs.StepsRead.{file, tunes, steps_pass}
+use Rattle.cr_read.proofs.StepsRead.{file, spellings, steps_pass}
 use Rattle.cr_read.proofs.laws.examples.steps_in_order.Goals as goal
 
 hold : AllHold (later_checks two_methods)
@@ -23,7 +23,7 @@ hold = (
 pub returns : goal.returns
 unfolding toml_on_literals key_faults is_utf8 chars
 returns c = record {
-  all = is_problem (file None) 4 tunes (steps_pass None) (omega arith) (two_methods_with []) (is_file (two_methods_with []) _ refl refl) hold;
-  chosen = is_problem (file (Some (codes "AC"))) 4 tunes (steps_pass (Some (codes "AC"))) (omega arith) (two_methods_with (codes "methods = \"AC\"\n"))
+  all = is_problem (file None) 4 spellings (steps_pass None) (omega arith) (two_methods_with []) (is_file (two_methods_with []) _ refl refl) hold;
+  chosen = is_problem (file (Some (codes "AC"))) 4 spellings (steps_pass (Some (codes "AC"))) (omega arith) (two_methods_with (codes "methods = \"AC\"\n"))
       (is_file (two_methods_with (codes "methods = \"AC\"\n")) _ refl refl) hold;
 }

@@ -1,0 +1,18 @@
+use Rattle.std.proofs.Common.{◌≡◌, ℕ, ◌-◌, ◌*◌, ◌∙◌, length, ap, arith, List, subst}
+use Rattle.std.specs.Prelude.{IfOk}
+use Rattle.std.specs.List.{range_with_len, AllZip}
+use Rattle.rayon.specs.Numbers.{nat_range}
+use Rattle.cr_false.specs.Sets.{IsFalsePair, HasNumber, pairs}
+use Rattle.cr_false.proofs.Tables.{ok_then, collected}
+use Rattle.cr_false.proofs.step_pairs.numbers_of.Goals as goal
+
+pub returns : goal.returns
+returns g c =
+    let ends = c.into_par_iter.ensures in
+    let whole : 24 * c.from-end.result - 0 ≡ 24 * length c.args.leads.now.leads = omega (arith, c.from-end.ensures, c.count.ensures.is) in
+    let h = c.in_ok-collect.ensures in
+    let chain = rw (c.map.ensures.base, c.with_min_len.ensures.base, c.map.ensures.f) at h.1 in
+    let places = chain.1 ∙ (λ i. nat_range (ends.0 i) (ends.1 i)) ∙ ap (range_with_len 0) whole in
+    ok_then c.in_ok-collect.field-0 _ _ _ h.2 (λ v told.
+    collected (λ (pair : ℕ) (number : ℕ). HasNumber (IsFalsePair c.args.leads.now pair) number) (pairs c.args.leads.now) h.0 told.0 v.items
+    (subst (λ (ps : List ℕ). AllZip (λ pair r. IfOk r ((λ (pair : ℕ) (number : ℕ). HasNumber (IsFalsePair c.args.leads.now pair) number) pair)) ps h.0) places chain.2) told.1 told.2)

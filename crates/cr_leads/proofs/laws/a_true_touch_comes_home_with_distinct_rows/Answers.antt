@@ -1,5 +1,0 @@
-use Rattle.cr_leads.proofs.Touches.{sound_touch}
-use Rattle.cr_leads.proofs.laws.a_true_touch_comes_home_with_distinct_rows.Goals as goal
-
-pub returns : goal.returns
-returns c = sound_touch

@@ -1,6 +1,0 @@
-use Rattle.cr_model.proofs.Below.{below}
-use Rattle.cr_model.proofs.Cuts.{not_home}
-use Rattle.cr_model.proofs.laws.dead.nothing_is_kept_below_a_node_that_comes_home.Goals as goal
-
-pub returns : goal.returns
-returns c = λ p node sound h calling kept above. not_home p node calling sound (below p node calling sound kept above) h

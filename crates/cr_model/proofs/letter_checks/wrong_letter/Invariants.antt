@@ -1,6 +1,0 @@
-use Rattle.std.proofs.Common.{ℕ, ◌<◌}
-use Rattle.cr_model.specs.Right.{LetterIsRight}
-use Rattle.cr_model.proofs.letter_checks.wrong_letter.Given as goal
-
-abbrev pub invariant-loop-index : goal.invariant-loop-index
-invariant-loop-index l = (i : ℕ) → i < l.index → LetterIsRight l.letters i

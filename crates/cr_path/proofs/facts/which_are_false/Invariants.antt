@@ -1,8 +1,0 @@
-use Rattle.std.proofs.Common.{◌≡◌}
-use Rattle.cr_model.specs.Problems.{ProblemParts}
-use Rattle.cr_leads.specs.Tables.{lead_table}
-use Rattle.cr_path.specs.Facts.{false_leads}
-use Rattle.cr_path.proofs.facts.which_are_false.Given as goal
-
-abbrev pub invariant-loop-step : goal.invariant-loop-step
-invariant-loop-step l = (p : ProblemParts) → l.leads ≡ lead_table p → l.twice.items ≡ false_leads p l.step

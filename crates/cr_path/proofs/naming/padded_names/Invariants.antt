@@ -1,6 +1,0 @@
-use Rattle.std.proofs.Common.{◌≡◌, take}
-use Rattle.cr_path.specs.Telling.{all_padded}
-use Rattle.cr_path.proofs.naming.padded_names.Given as goal
-
-abbrev pub invariant-loop-lead : goal.invariant-loop-lead
-invariant-loop-lead l = l.numbers.items ≡ all_padded l.width l.names (take l.lead-index l.leads)

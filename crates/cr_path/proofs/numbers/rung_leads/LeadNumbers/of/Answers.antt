@@ -1,0 +1,12 @@
+use Rattle.std.proofs.Common.{◌≡◌, ◌*◌, ℕ, length, ap, arith}
+use Rattle.cr_path.specs.Begun.{numbers_in}
+use Rattle.cr_path.proofs.Recorded.{rung_whole}
+use Rattle.cr_path.proofs.numbers.rung_leads.LeadNumbers.of.Goals as goal
+
+pub returns : goal.returns
+returns c =
+    let p = c.args.leads.now in
+    let made = c.loop-place.made in
+    let place = c.loop-place.place in
+    let all : place ≡ length made.heads.rows = omega (arith, c.loop-place-test.false, c.len.ensures.is, c.loop-place.invariant.place) in
+    rung_whole p (numbers_in p made) (place * length p.leads) c.loop-place.invariant.begun (ap (λ (n : ℕ). n * length p.leads) all)

@@ -1,6 +1,0 @@
-use Rattle.std.proofs.Common.{refl}
-use Rattle.cr_path.proofs.StepSets.{none_of_zero}
-use Rattle.cr_path.proofs.sets.no_steps.Goals as goal
-
-pub returns : goal.returns
-returns c = none_of_zero 0 refl

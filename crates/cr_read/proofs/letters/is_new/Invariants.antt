@@ -1,5 +1,0 @@
-use Rattle.std.proofs.Common.{◌≢◌, ℕ, ◌<◌, get_or}
-use Rattle.cr_read.proofs.letters.is_new.Given as goal
-
-abbrev pub invariant-loop-earlier : goal.invariant-loop-earlier
-invariant-loop-earlier l = (j : ℕ) → j < l.earlier → get_or l.letters j 0 ≢ get_or l.letters l.index 0
