@@ -40,6 +40,12 @@ def recipes():
     return found
 
 
+def commands_of(title):
+    """The commands of a section of docs/formats.md."""
+    part = FORMATS.read_text(encoding="utf-8").split(f"\n## {title}\n")[1].split("\n## ", 1)[0]
+    return [line.strip() for line in part.splitlines() if line.startswith("    ./ringsearch")]
+
+
 def agrees(told, got):
     """Whether lines are those that are told, where `...` stands for any number of lines."""
     pattern = "".join(r"(?:.*\n)*?" if line.strip() == "..." else re.escape(line.rstrip()) + r" *\n" for line in told.splitlines())
@@ -122,13 +128,34 @@ class Running(unittest.TestCase):
         self.assertEqual((self.folder / "out.txt").read_text().splitlines(), search(example)[1])
 
     def test_the_example_of_a_checkpoint_in_the_formats(self):
-        lines = [line.strip() for line in FORMATS.read_text(encoding="utf-8").splitlines() if line.startswith("    ./ringsearch")]
+        lines = commands_of("The checkpoint")
         self.assertEqual(len(lines), 2)
         (self.folder / "examples").symlink_to(TOP / "examples")
         self.assertEqual(compose_in_shell(lines[0], self.folder), (3, "", "ringsearch: stopped after 1000 turns\n"))
         status, book, _ = compose_in_shell(lines[1], self.folder)
         example = (TOP / "examples/plain-bob-minor-bobs-and-singles.toml").read_text()
         self.assertEqual((status, book.splitlines()), (0, search(example)[1]))
+
+    def test_the_commands_of_a_trail_in_the_formats(self):
+        example = (TOP / "examples/plain-bob-minor-bobs-and-singles.toml").read_text()
+        (self.folder / "problem.toml").write_text(example)
+        first, last, onward, done, book = [line.replace("10000000000", "900") for line in commands_of("The trail")]
+        self.assertEqual(compose_in_shell(first, self.folder), (0, "", ""))
+        trail = self.folder / "trail"
+        whole = trail.read_bytes()
+        trail.write_bytes(whole[:len(whole) // 2])
+        for line in (last, onward, done, book):
+            self.assertEqual(compose_in_shell(line, self.folder), (0, "", ""))
+        self.assertEqual((self.folder / "book.txt").read_text().splitlines(), search(example)[1])
+        self.assertTrue((self.folder / "trail2").read_bytes().endswith(b"\njobs 0\nend\n"))
+
+    def test_the_trail_of_the_running_page(self):
+        page = RUNNING.read_text(encoding="utf-8").split("\n## A long search with a trail\n")[1].split("\n## ", 1)[0]
+        example = (TOP / "examples/plain-bob-minor-bobs-and-singles.toml").read_text()
+        (self.folder / "p.toml").write_text(example)
+        for line in re.findall(r"    (./ringsearch .*)", page):
+            self.assertEqual(compose_in_shell(line.replace("10000000000", "900"), self.folder), (0, "", ""))
+        self.assertEqual((self.folder / "book.txt").read_text().splitlines(), search(example)[1])
 
     def test_a_signal_ends_it_and_nothing_is_written(self):
         for name, status in ((signal.SIGINT, -signal.SIGINT), (signal.SIGTERM, -signal.SIGTERM)):

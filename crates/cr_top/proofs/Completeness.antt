@@ -14,13 +14,13 @@ use Rattle.cr_store.specs.declared.fault.CheckFault.{CheckFault}
 use Rattle.cr_top.specs.declared.status.Status.{Status}
 use Rattle.cr_top.specs.declared.status.Status.TheVariants as ended
 use Rattle.cr_top.specs.OneAnswer.{HasOneAnswer}
-use Rattle.cr_top.specs.Runs.{KeepsTo}
+use Rattle.cr_trail.specs.Runs.{KeepsTo}
 use Rattle.cr_top.specs.Texts.{IsBookOf, IsStopOf, IsReached, IsTextOf, IsNoProblem, IsNoCheckpoint}
 use Rattle.cr_top.specs.Streams.{Reading, Writing, WasRead, WasTold}
 use Rattle.cr_top.specs.Endings.{IsDue, EndsSearch, EndsMake}
 
 -- no more was taken than was left
-taken_of_told : (left now : Option (List ℕ)) (told taken : List ℕ) → left ≡ Some told → Consumes left now taken
+pub taken_of_told : (left now : Option (List ℕ)) (told taken : List ℕ) → left ≡ Some told → Consumes left now taken
     → length taken ≤ length told
 taken_of_told None now told taken is consumed = absurd (cc)
 taken_of_told (Some xs) None told taken is consumed = absurd consumed
@@ -28,7 +28,7 @@ taken_of_told (Some xs) (Some ys) told taken is consumed =
     let same : xs ≡ told = cc in
     omega (arith, ap length same, ap length consumed, length-append taken ys)
 
-the_input : (left : Option (List ℕ)) (told input : List ℕ) → left ≡ Some told → WasTold left input → told ≡ input
+pub the_input : (left : Option (List ℕ)) (told input : List ℕ) → left ≡ Some told → WasTold left input → told ≡ input
 the_input None told input is was = absurd (cc)
 the_input (Some xs) told input is was = let same : xs ≡ told = cc in sym same ∙ was
 
@@ -69,6 +69,7 @@ module _ {S K : Type 0} (source : Reading S) (sink : Writing K) (turns : Option 
     says ended.NoMemory ends = tt
     says (ended.Words fault) ends = absurd ends.0
     says ended.ReadFault ends = absurd (reads ends.0.1)
+    says (ended.Trail fault) ends = absurd ends.0
 
   -- where no write failed, a search did not end so
   pub no_write_fault : (Rose (sink.faults sink.old) (sink.faults sink.new) → ⊥) → (status : Status)
@@ -88,6 +89,7 @@ made sink number writes (ended.Stopped after) ends = absurd ends
 made sink number writes (ended.Problem fault) ends = absurd ends
 made sink number writes (ended.Checkpoint fault) ends = absurd ends
 made sink number writes ended.ReadFault ends = absurd ends
+made sink number writes (ended.Trail fault) ends = absurd ends
 made sink number writes ended.TooLong ends = absurd ends
 
 -- each input has the answer that it is due, unless memory was wanting
@@ -124,6 +126,7 @@ module _ (input : List ℕ) (one : HasOneAnswer input) where
     finishes keeps ended.TooLong writes says = let long : 2 ^ 40 < length input = says in absurd (omega (arith, short))
     finishes keeps (ended.Words fault) writes says = absurd says
     finishes keeps ended.ReadFault writes says = absurd says
+    finishes keeps (ended.Trail fault) writes says = absurd says
 
     -- with too few a checkpoint is
     pub stops : (after : ℕ) → turns ≡ Some after → after < size_of_all p most_rows nodes → (status : Status) → (status ≡ ended.WriteFault → ⊥)
@@ -141,6 +144,7 @@ module _ (input : List ℕ) (one : HasOneAnswer input) where
     stops after allowed less ended.TooLong writes says = let long : 2 ^ 40 < length input = says in absurd (omega (arith, short))
     stops after allowed less (ended.Words fault) writes says = absurd says
     stops after allowed less ended.ReadFault writes says = absurd says
+    stops after allowed less (ended.Trail fault) writes says = absurd says
 
   -- what a text belongs to is an input
   reached_input : (turns : Option ℕ) (text : List ℕ) (stopped : Option ℕ) → IsReached turns input text stopped
@@ -169,6 +173,7 @@ module _ (input : List ℕ) (one : HasOneAnswer input) where
     no_problem fault ended.TooLong due says = let long : 2 ^ 40 < length input = says in absurd (omega (arith, due.0))
     no_problem fault (ended.Words other) due says = absurd says
     no_problem fault ended.ReadFault due says = absurd says
+    no_problem fault (ended.Trail other) due says = absurd says
 
     no_checkpoint : (fault : CheckFault) (status : Status) → (length input ≤ 2 ^ 40) × IsNoCheckpoint input fault → Says turns input status
         → (status ≡ ended.Checkpoint fault) ⊎ (status ≡ ended.NoMemory)
@@ -181,6 +186,7 @@ module _ (input : List ℕ) (one : HasOneAnswer input) where
     no_checkpoint fault ended.TooLong due says = let long : 2 ^ 40 < length input = says in absurd (omega (arith, due.0))
     no_checkpoint fault (ended.Words other) due says = absurd says
     no_checkpoint fault ended.ReadFault due says = absurd says
+    no_checkpoint fault (ended.Trail other) due says = absurd says
 
     too_long : (status : Status) → 2 ^ 40 < length input → Says turns input status → (status ≡ ended.TooLong) ⊎ (status ≡ ended.NoMemory)
     too_long ended.TooLong due says = inl refl
@@ -192,6 +198,7 @@ module _ (input : List ℕ) (one : HasOneAnswer input) where
     too_long (ended.Checkpoint fault) due says = absurd (omega (arith, due, says.0))
     too_long (ended.Words fault) due says = absurd says
     too_long ended.ReadFault due says = absurd says
+    too_long (ended.Trail fault) due says = absurd says
 
     -- each refusal that an input is due comes, unless memory was wanting
     pub refuses : (due status : Status) → IsDue input due → Says turns input status → (status ≡ due) ⊎ (status ≡ ended.NoMemory)
@@ -204,6 +211,7 @@ module _ (input : List ℕ) (one : HasOneAnswer input) where
     refuses ended.NoMemory status is says = absurd is
     refuses (ended.Words fault) status is says = absurd is
     refuses ended.ReadFault status is says = absurd is
+    refuses (ended.Trail fault) status is says = absurd is
 
 -- how a search ends from a source that told its bytes, where no read failed
 module _ {S K : Type 0} (source : Reading S) (sink : Writing K) (turns : Option ℕ) (status : Status) (ends : EndsSearch source sink turns status)

@@ -1,9 +1,12 @@
 pub mod Steps
-pub mod Going
 pub mod Stopping
 pub mod Wishing
 pub mod Stages
 pub mod Workers
 pub mod OneAnswer
 pub mod Completeness
+pub mod TrailParts
+pub mod TrailAnswers
+pub mod LastAnswers
+pub mod CutTrails
 pub mod Noting

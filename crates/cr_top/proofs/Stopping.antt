@@ -8,11 +8,12 @@ use Rattle.cr_model.specs.Sizes.{most_rows, size_of_all}
 use Rattle.cr_model.specs.ProblemFiles.{ProblemFile}
 use Rattle.cr_node.specs.Work.{IsJob}
 use Rattle.cr_model.specs.Checkpoints.{CanGoOn, CheckFile, IsCheckpoint, checkpoint_text, nodes_of_jobs}
-use Rattle.cr_top.specs.Runs.{size_of_jobs, KeepsTo, RunsTo, StopsAfter}
+use Rattle.cr_trail.specs.Runs.{size_of_jobs, KeepsTo, RunsTo}
+use Rattle.cr_top.specs.Runs.{StopsAfter}
 use Rattle.cr_book.specs.Pieces.{IsTextOfFound}
 use Rattle.cr_top.specs.Texts.{IsBookOf, IsStopOf, IsReached, IsTextAfter, IsStopText, GoesOnOrdered, CoversOrdered}
 use Rattle.cr_top.specs.Starts.{IsStart}
-use Rattle.cr_top.proofs.Going.{FoundWhole, CoveredOnce, book_found, none_ascend, some_jobs}
+use Rattle.cr_trail.proofs.Going.{FoundWhole, CoveredOnce, book_found, none_ascend, some_jobs}
 
 -- a checkpoint's text begins as one
 pub checkpoint_begins : (p : ProblemParts) (bytes text : List ℕ) (found : List (List ℕ)) (jobs : List (List (List ℕ)))
@@ -122,6 +123,7 @@ begun_goes_on p found jobs job none root = subst (λ f. CanGoOn p f jobs) (sym n
 pub fresh_start : (input : List ℕ) (p : ProblemParts) (found : List (List ℕ)) (jobs : List (List (List ℕ))) → (IsCheckpoint input → ⊥)
     → ProblemFile input p → CanGoOn p found jobs → found ≡ [] → jobs ≡ ([] ∷ []) ∷ [] → IsStart input input p found jobs
 fresh_start input p found jobs begins file on none root = record {
+  says = inr (begins, refl, file, none, root);
   of_input = inr (record { begins = begins; bytes_are = refl; file = file; found_are = none; nodes_are = ap nodes_of_jobs root });
   file = file;
   goes_on = on;
@@ -131,6 +133,7 @@ fresh_start input p found jobs begins file on none root = record {
 pub resumed_start : (input bytes : List ℕ) (p : ProblemParts) (found : List (List ℕ)) (jobs : List (List (List ℕ))) → IsCheckpoint input
     → CheckFile input bytes p found jobs → IsStart input bytes p found jobs
 resumed_start input bytes p found jobs begins file = record {
+  says = inl (begins, file);
   of_input = inl (record { begins = begins; jobs = jobs; file = file; nodes_are = refl });
   file = file.problem;
   goes_on = file.goes_on;

@@ -1,7 +1,7 @@
 -- From how a call of the program ends to how its wish does.
 use Rattle.std.proofs.Common.{◌≡◌, ℕ, ◌⊎◌, List, [], Option, inl, inr, refl, sym, ap, subst, arith}
 use Rattle.clap.specs.Words.{Text}
-use Rattle.cr_words.specs.Readings.{ReadsAs, IsAccepted, IsFaultOf}
+use Rattle.cr_words.specs.Readings.{ReadsAs, IsAccepted, IsWordsFaultOf}
 use Rattle.cr_words.specs.declared.fault.WordsFault.{WordsFault}
 use Rattle.cr_words.specs.declared.wish.Wish.{Wish}
 use Rattle.cr_words.specs.declared.wish.Mode.{Mode}
@@ -9,26 +9,29 @@ use Rattle.cr_words.specs.declared.wish.Mode.TheVariants as mode
 use Rattle.cr_top.specs.declared.status.Status.{Status}
 use Rattle.cr_top.specs.declared.status.Status.TheVariants as ended
 use Rattle.cr_top.specs.Streams.{Reading, Writing}
-use Rattle.cr_top.specs.Endings.{AsksSearch, AsksMake, EndsSearch, EndsMake, EndsWish, Ends}
+use Rattle.cr_top.specs.Endings.{AsksSearch, AsksMake, AsksTrail, AsksLast, EndsSearch, EndsMake, EndsTrail, EndsLast, EndsWish, Ends}
 
 module _ {S K : Type 0} (source : Reading S) (sink : Writing K) where
   -- a call that did nothing ends for want of memory as any wish may
-  unbegun : source.took source.old source.new [] → source.new ≡ source.old → sink.new ≡ sink.old
+  unbegun : source.took source.old source.new [] → sink.grew sink.old sink.new [] → source.new ≡ source.old → sink.new ≡ sink.old
       → (wished : Mode) (turns : Option ℕ) → EndsWish source sink wished turns ended.NoMemory
-  unbegun none unread unwritten mode.Search turns = ((([], none, omega arith), ap source.faults unread), unwritten)
-  unbegun none unread unwritten (mode.Make number) turns = (unread, unwritten)
+  unbegun none nothing unread unwritten mode.Search turns = ((([], none, omega arith), ap source.faults unread), unwritten)
+  unbegun none nothing unread unwritten (mode.Make number) turns = (unread, unwritten)
+  unbegun none nothing unread unwritten (mode.Trail every) turns =
+      inl ((([], none, omega arith), ap source.faults unread), record { grew = nothing; calm = ap sink.faults unwritten })
+  unbegun none nothing unread unwritten mode.Last turns = ((([], none, omega arith), ap source.faults unread), unwritten)
 
   -- where there was no memory for the words
-  pub without_memory : source.took source.old source.new [] → source.new ≡ source.old → sink.new ≡ sink.old → (words : List Text)
-      → (((wish : Wish) × IsAccepted words wish) ⊎ ((fault : WordsFault) × IsFaultOf words fault))
+  pub without_memory : source.took source.old source.new [] → sink.grew sink.old sink.new [] → source.new ≡ source.old → sink.new ≡ sink.old → (words : List Text)
+      → (((wish : Wish) × IsAccepted words wish) ⊎ ((fault : WordsFault) × IsWordsFaultOf words fault))
       → Ends source sink words ended.NoMemory
-  without_memory none unread unwritten words (inl is) = inl (is.0, is.1, unbegun none unread unwritten is.0.mode is.0.turns)
-  without_memory none unread unwritten words (inr is) =
+  without_memory none nothing unread unwritten words (inl is) = inl (is.0, is.1, unbegun none nothing unread unwritten is.0.mode is.0.turns)
+  without_memory none nothing unread unwritten words (inr is) =
       inr (record { fault = is.0; is = is.1; tells = inr refl; unread = unread; unwritten = unwritten })
 
   -- words read as one wish, and have no fault where they are accepted
   module _ (one_wish : (words : List Text) (one other : Wish) → ReadsAs words one → ReadsAs words other → one ≡ other)
-      (apart : (words : List Text) (wish : Wish) (fault : WordsFault) → IsAccepted words wish → IsFaultOf words fault → ⊥)
+      (apart : (words : List Text) (wish : Wish) (fault : WordsFault) → IsAccepted words wish → IsWordsFaultOf words fault → ⊥)
       (words : List Text) (status : Status) where
     as_wish : (wish : Wish) → IsAccepted words wish → Ends source sink words status → EndsWish source sink wish.mode wish.turns status
     as_wish wish accepted (inl ends) =
@@ -43,10 +46,18 @@ module _ {S K : Type 0} (source : Reading S) (sink : Writing K) where
     pub as_make : (number : ℕ) → AsksMake words number → Ends source sink words status → EndsMake sink number status
     as_make number asks ends = (as_wish _ asks.2 ends).1
 
+    -- a call whose words wish for a trail ends so
+    pub as_trail : (every : ℕ) → AsksTrail words every → Ends source sink words status → EndsTrail source sink every status
+    as_trail every asks ends = as_wish _ asks.2 ends
+
+    -- a call whose words wish for the last checkpoint of one ends so
+    pub as_last : AsksLast words → Ends source sink words status → EndsLast source sink status
+    as_last asks ends = as_wish _ asks.2 ends
+
   -- words that have a fault end with it, or there was not enough memory
-  pub refused : (apart : (words : List Text) (wish : Wish) (fault : WordsFault) → IsAccepted words wish → IsFaultOf words fault → ⊥)
-      → (one : (words : List Text) (fault other : WordsFault) → IsFaultOf words fault → IsFaultOf words other → fault ≡ other)
-      → (words : List Text) (fault : WordsFault) → IsFaultOf words fault → (status : Status) → Ends source sink words status
+  pub refused : (apart : (words : List Text) (wish : Wish) (fault : WordsFault) → IsAccepted words wish → IsWordsFaultOf words fault → ⊥)
+      → (one : (words : List Text) (fault other : WordsFault) → IsWordsFaultOf words fault → IsWordsFaultOf words other → fault ≡ other)
+      → (words : List Text) (fault : WordsFault) → IsWordsFaultOf words fault → (status : Status) → Ends source sink words status
       → (status ≡ ended.Words fault) ⊎ (status ≡ ended.NoMemory)
   refused apart one words fault is status (inl ends) = absurd (apart words ends.0 fault ends.1 is)
   refused apart one words fault is status (inr away) =

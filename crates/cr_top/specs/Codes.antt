@@ -13,3 +13,4 @@ code_of ended.ReadFault = 6
 code_of ended.WriteFault = 7
 code_of ended.NoMemory = 8
 code_of ended.TooLong = 9
+code_of (ended.Trail fault) = 10

@@ -1,9 +1,13 @@
 -- What each ending of the program says of the words, the input, the source and the sink.
-use Rattle.std.specs.Prelude.{◌≡◌, ℕ, ◌^◌, ◌<◌, ◌≤◌, ◌⊎◌, List, length, Option, Some, None, Result, Ok, Err}
+use Rattle.std.specs.Prelude.{◌≡◌, ⊤, ℕ, ◌^◌, ◌<◌, ◌≤◌, ◌⊎◌, List, [], length, take, drop, Option, Some, None, Result, Ok, Err}
 use Rattle.clap.specs.Words.{Text}
 use Rattle.cr_io.specs.Causes.{Rose}
 use Rattle.cr_io.specs.Ends.{TookAtMost, TookMore}
-use Rattle.cr_words.specs.Readings.{IsAccepted, IsFaultOf}
+use Rattle.cr_model.specs.Problems.{ProblemParts}
+use Rattle.cr_store.specs.Blocks.{blocks}
+use Rattle.cr_trail.specs.Lasts.{IsLast}
+use Rattle.cr_trail.specs.Trails.{IsTrail, LeavesNone}
+use Rattle.cr_words.specs.Readings.{IsAccepted, IsWordsFaultOf}
 use Rattle.cr_words.specs.declared.fault.WordsFault.{WordsFault}
 use Rattle.cr_words.specs.declared.wish.Wish.{Wish}
 use Rattle.cr_words.specs.declared.wish.Mode.{Mode}
@@ -24,6 +28,19 @@ AsksSearch words turns = (workers : ℕ) × IsAccepted words (record { workers =
 abbrev pub AsksMake : List Text → ℕ → Type 0
 AsksMake words number = (workers : ℕ) × (turns : Option ℕ) × IsAccepted words (record { workers = workers; turns = turns; mode = mode.Make number })
 
+-- the words wish for a search that writes a checkpoint after each so many turns
+abbrev pub AsksTrail : List Text → ℕ → Type 0
+AsksTrail words every = (workers : ℕ) × (turns : Option ℕ) × IsAccepted words (record { workers = workers; turns = turns; mode = mode.Trail every })
+
+-- a checkpoint of a trail comes after one turn or more
+abbrev pub HasTurns : Mode → Type 0
+HasTurns (mode.Trail every) = 1 ≤ every
+HasTurns wished = ⊤
+
+-- the words wish for the last checkpoint of a trail
+abbrev pub AsksLast : List Text → Type 0
+AsksLast words = (workers : ℕ) × (turns : Option ℕ) × IsAccepted words (record { workers = workers; turns = turns; mode = mode.Last })
+
 -- the status of a call that wrote its text whole, after so many turns where it stopped, or was refused
 abbrev pub status_of : Result (Option ℕ) Refusal → Status
 status_of (Ok None) = ended.Finished
@@ -35,6 +52,7 @@ status_of (Err refusal.ReadFault) = ended.ReadFault
 status_of (Err refusal.WriteFault) = ended.WriteFault
 status_of (Err refusal.NoMemory) = ended.NoMemory
 status_of (Err refusal.TooLong) = ended.TooLong
+status_of (Err (refusal.Trail fault)) = ended.Trail fault
 
 -- a call got no input.
 -- Problem, Checkpoint: the source was read to its end, and what was left in it is no problem, or no checkpoint, for
@@ -74,16 +92,69 @@ EndsMake sink number ended.WriteFault = (text : List ℕ) × IsSummaryOf number 
 EndsMake sink number ended.NoMemory = sink.new ≡ sink.old
 EndsMake sink number status = ⊥
 
+-- the last checkpoint of a trail has no node
+abbrev pub HasNoNode : List (List ℕ) → Type 0
+HasNoNode trail = (bytes : List ℕ) × (p : ProblemParts) × LeavesNone p bytes trail
+
+-- the source was read to its end, and the sink grew by the blocks of a trail of what was left in it
+abbrev pub WroteTrail : {S K : Type 0} → Reading S → Writing K → ℕ → Type 0
+WroteTrail source sink every =
+    (input : List ℕ) × (trail : List (List ℕ)) × WasRead source input × IsTrail input every trail × WasWritten sink (blocks trail)
+
+-- how a search ends that writes a checkpoint after each so many turns.
+-- Finished: the source was read to its end, and the sink grew by the blocks of a trail of what was left in it, whose last
+-- checkpoint has no node.
+-- WriteFault: the source was read to its end, the sink grew by a front of the blocks of a trail of what was left in it,
+-- and its count of faults rose.
+-- NoMemory: there was not enough, and the sink grew by nothing, or by the blocks of a trail of what was left in the source.
+-- On every other status there was no input, and the sink is left as it was
+abbrev pub EndsTrail : {S K : Type 0} → Reading S → Writing K → ℕ → Status → Type 0
+EndsTrail source sink every ended.Finished =
+    (input : List ℕ) × (trail : List (List ℕ)) × WasRead source input × IsTrail input every trail × HasNoNode trail × WasWritten sink (blocks trail)
+EndsTrail source sink every ended.WriteFault =
+    (input : List ℕ) × (trail : List (List ℕ)) × WasRead source input × IsTrail input every trail × WasCutOff sink (blocks trail)
+EndsTrail source sink every ended.NoMemory =
+    (GetsNoInput source ended.NoMemory × WasWritten sink []) ⊎ WroteTrail source sink every
+EndsTrail source sink every status = GetsNoInput source status × (sink.new ≡ sink.old)
+
+-- a call that takes any bytes got none: a read failed, or there were too many, or there was not enough memory
+abbrev pub GetsNoBytes : {S : Type 0} → Reading S → Status → Type 0
+GetsNoBytes source ended.ReadFault = GetsNoInput source ended.ReadFault
+GetsNoBytes source ended.TooLong = GetsNoInput source ended.TooLong
+GetsNoBytes source ended.NoMemory = GetsNoInput source ended.NoMemory
+GetsNoBytes source status = ⊥
+
+-- the last body of a text, by its place and how many bytes it has
+abbrev pub body_in : List ℕ → ℕ × ℕ → List ℕ
+body_in text last = take last.1 (drop last.0 text)
+
+-- how a call ends that writes the last checkpoint of a trail.
+-- Finished: the source was read to its end, and the sink grew by the last whole body of what was left in it.
+-- Trail: the source was read to its end, and what was left in it has no last whole body, for this reason.
+-- WriteFault: the source was read to its end, the sink grew by a front of the last whole body of what was left in it, and
+-- its count of faults rose.
+-- On every other status there were no bytes, or not enough memory. On Trail and these the sink is left as it was
+abbrev pub EndsLast : {S K : Type 0} → Reading S → Writing K → Status → Type 0
+EndsLast source sink ended.Finished =
+    (input : List ℕ) × (last : ℕ × ℕ) × WasRead source input × IsLast input (Ok last) × WasWritten sink (body_in input last)
+EndsLast source sink (ended.Trail fault) =
+    (input : List ℕ) × WasRead source input × IsLast input (Err fault) × (sink.new ≡ sink.old)
+EndsLast source sink ended.WriteFault =
+    (input : List ℕ) × (last : ℕ × ℕ) × WasRead source input × IsLast input (Ok last) × WasCutOff sink (body_in input last)
+EndsLast source sink status = GetsNoBytes source status × (sink.new ≡ sink.old)
+
 -- how a call for a wish ends, by its mode. One that makes a problem leaves the source as it was
 abbrev pub EndsWish : {S K : Type 0} → Reading S → Writing K → Mode → Option ℕ → Status → Type 0
 EndsWish source sink mode.Search turns status = EndsSearch source sink turns status
 EndsWish source sink (mode.Make number) turns status = (source.new ≡ source.old) × EndsMake sink number status
+EndsWish source sink (mode.Trail every) turns status = EndsTrail source sink every status
+EndsWish source sink mode.Last turns status = EndsLast source sink status
 
 -- how a call ends whose words have a fault: it is told, or there was not enough memory, and source and sink are left as
 -- they were
 pub record IsTurnedAway {S K : Type 0} (source : Reading S) (sink : Writing K) (words : List Text) (status : Status) : Type 0 where
   pub fault : WordsFault
-  pub is : IsFaultOf words fault
+  pub is : IsWordsFaultOf words fault
   pub tells : (status ≡ ended.Words fault) ⊎ (status ≡ ended.NoMemory)
   pub unread : source.new ≡ source.old
   pub unwritten : sink.new ≡ sink.old
@@ -100,3 +171,9 @@ IsDue input (ended.Problem fault) = (length input ≤ 2 ^ 40) × IsNoProblem inp
 IsDue input (ended.Checkpoint fault) = (length input ≤ 2 ^ 40) × IsNoCheckpoint input fault
 IsDue input ended.TooLong = 2 ^ 40 < length input
 IsDue input status = ⊥
+
+-- the refusal that the bytes of a trail are due: they have no last whole body, or are more than are read
+abbrev pub IsLastDue : List ℕ → Status → Type 0
+IsLastDue input (ended.Trail fault) = (length input ≤ 2 ^ 40) × IsLast input (Err fault)
+IsLastDue input ended.TooLong = 2 ^ 40 < length input
+IsLastDue input status = ⊥

@@ -11,6 +11,8 @@ use Rattle.cr_model.specs.declared.file_fault.ProblemFault.{ProblemFault}
 use Rattle.cr_model.specs.declared.file_fault.ProblemFault.TheVariants as fault
 use Rattle.cr_store.specs.declared.fault.CheckFault.{CheckFault}
 use Rattle.cr_store.specs.declared.fault.CheckFault.TheVariants as check
+use Rattle.cr_trail.specs.declared.last.TrailFault.{TrailFault}
+use Rattle.cr_trail.specs.declared.last.TrailFault.TheVariants as trail
 use Rattle.cr_words.specs.declared.fault.WordsFault.{WordsFault}
 use Rattle.cr_words.specs.declared.fault.WordsFault.TheVariants as wrong
 use Rattle.cr_top.specs.declared.status.Status.{Status}
@@ -84,6 +86,7 @@ fault_words wrong.Number = codes "4 Number"
 fault_words wrong.Mode = codes "5 Mode"
 fault_words wrong.Mixed = codes "6 Mixed"
 fault_words wrong.NoMemory = codes "7 NoMemory"
+fault_words wrong.Every = codes "8 Every"
 
 -- the number, the name and the details of a fault of a checkpoint; of its problem's fault again number, name and details
 abbrev pub check_words : CheckFault → List ℕ
@@ -95,6 +98,11 @@ check_words (check.NotKept at) = codes "5 NotKept" ++ number at
 check_words (check.FoundOrder at) = codes "6 FoundOrder" ++ number at
 check_words (check.Overlap earlier at) = codes "7 Overlap" ++ (number earlier ++ number at)
 check_words check.NoMemory = codes "8 NoMemory"
+
+-- the number, the name and the details of why a text has no last block
+abbrev pub trail_words : TrailFault → List ℕ
+trail_words (trail.Form at) = codes "1 Form" ++ number at
+trail_words trail.Nothing = codes "2 Nothing"
 
 -- the program's name, the words, and a line feed
 abbrev pub line : List ℕ → List ℕ
@@ -111,3 +119,4 @@ note_line status.ReadFault = line (codes "read failed")
 note_line status.WriteFault = line (codes "write failed")
 note_line status.NoMemory = line (codes "no memory")
 note_line status.TooLong = line (codes "input too long")
+note_line (status.Trail fault) = line (codes "trail " ++ trail_words fault)

@@ -1,5 +1,5 @@
 -- The parts of a search, and why each of them was not done.
-use Rattle.std.specs.Prelude.{◌≡◌, ℕ, ⊤, List, Option, Result, Ok, Err, Vec}
+use Rattle.std.specs.Prelude.{◌≡◌, ℕ, ⊤, List, Option, None, Result, Ok, Err, Vec}
 use Rattle.std.specs.declared.alloc.Global.{Global}
 use Rattle.cr_io.specs.declared.reading.ReadEnd.{ReadEnd}
 use Rattle.cr_io.specs.declared.reading.ReadEnd.TheVariants as end
@@ -8,7 +8,9 @@ use Rattle.cr_store.specs.Written.{lists}
 use Rattle.cr_top.specs.Streams.{Reading, Writing, WasRead, WasWritten, WasCutOff}
 use Rattle.cr_top.specs.Texts.{IsReached, IsTextOf, IsNoProblem, IsNoCheckpoint}
 use Rattle.cr_top.specs.Starts.{IsStart}
-use Rattle.cr_top.specs.Endings.{GetsNoInput, status_of}
+use Rattle.cr_trail.specs.declared.trail.TrailEnd.{TrailEnd}
+use Rattle.cr_trail.specs.declared.trail.TrailEnd.TheVariants as trail
+use Rattle.cr_top.specs.Endings.{GetsNoInput, GetsNoBytes, status_of}
 use Rattle.cr_top.specs.declared.start.Start.{Start}
 use Rattle.cr_top.specs.declared.refusal.Refusal.{Refusal}
 use Rattle.cr_top.specs.declared.refusal.Refusal.TheVariants as refusal
@@ -20,10 +22,16 @@ refusal_of end.ReadFault = refusal.ReadFault
 refusal_of end.TooLong = refusal.TooLong
 refusal_of end.NoMemory = refusal.NoMemory
 
+-- the trail was written whole, or it was not for this reason
+abbrev pub trail_result : TrailEnd → Result (Option ℕ) Refusal
+trail_result trail.Done = Ok None
+trail_result trail.WriteFault = Err refusal.WriteFault
+trail_result trail.NoMemory = Err refusal.NoMemory
+
 -- the input was read whole, or it was not for this reason
 abbrev pub ReadsInput : {S : Type 0} → Reading S → Result (Vec ℕ Global) Refusal → Type 0
 ReadsInput source (Ok input) = WasRead source input.items
-ReadsInput source (Err why) = GetsNoInput source (status_of (Err why))
+ReadsInput source (Err why) = GetsNoBytes source (status_of (Err why))
 
 -- what an input says, or why it is none
 abbrev pub StartsFrom : List ℕ → Result Start Refusal → Type 0

@@ -12,7 +12,7 @@ use Rattle.cr_book.specs.Pieces.{pieces_joined, IsTextOfFound}
 use Rattle.cr_store.specs.Searches.{WentOn}
 use Rattle.cr_store.specs.Faults.{FirstCheckFault}
 use Rattle.cr_store.specs.declared.fault.CheckFault.{CheckFault}
-use Rattle.cr_top.specs.Runs.{KeepsTo}
+use Rattle.cr_trail.specs.Runs.{KeepsTo}
 use Rattle.cr_top.specs.declared.outcome.Outcome.{Outcome}
 
 -- the text is that of the book of what the input covers, whose size keeps to the turns that are allowed

@@ -7,6 +7,7 @@ ghost use Rattle.cr_model.specs.declared.notation.NotationFault.TheVariants as n
 ghost use Rattle.cr_model.specs.declared.file_fault.Whose.TheVariants as owner;
 ghost use Rattle.cr_model.specs.declared.file_fault.ProblemFault.TheVariants as fault;
 ghost use Rattle.cr_store.specs.declared.fault.CheckFault.TheVariants as check;
+ghost use Rattle.cr_trail.specs.declared.last.TrailFault.TheVariants as trail;
 ghost use Rattle.cr_words.specs.declared.fault.WordsFault.TheVariants as wrong;
 ghost use Rattle.cr_top.specs.declared.status.Status.TheVariants as ended;
 ghost use Rattle.cr_top.specs.Codes.{code_of};
@@ -15,8 +16,9 @@ ghost use Rattle.cr_top.specs.Lines.{note_line};
 /// The number of each status.
 pub fn statuses_have_their_numbers()
     ensures { map code_of (ended.Finished ∷ ended.Words wrong.Line ∷ ended.Stopped 3 ∷ ended.Problem fault.NotToml
-        ∷ ended.Checkpoint (check.Form 1) ∷ ended.ReadFault ∷ ended.WriteFault ∷ ended.NoMemory ∷ ended.TooLong ∷ [])
-        ≡ 0 ∷ 2 ∷ 3 ∷ 4 ∷ 5 ∷ 6 ∷ 7 ∷ 8 ∷ 9 ∷ [] }
+        ∷ ended.Checkpoint (check.Form 1) ∷ ended.ReadFault ∷ ended.WriteFault ∷ ended.NoMemory ∷ ended.TooLong
+        ∷ ended.Trail trail.Nothing ∷ [])
+        ≡ 0 ∷ 2 ∷ 3 ∷ 4 ∷ 5 ∷ 6 ∷ 7 ∷ 8 ∷ 9 ∷ 10 ∷ [] }
 {}
 
 /// The line of each status, and none where the run finished.
@@ -34,16 +36,18 @@ pub fn statuses_have_their_lines()
     ensures write { note_line ended.WriteFault ≡ codes "ringsearch: write failed\n" }
     ensures memory { note_line ended.NoMemory ≡ codes "ringsearch: no memory\n" }
     ensures long { note_line ended.TooLong ≡ codes "ringsearch: input too long\n" }
+    ensures trail { map (λ f. note_line (ended.Trail f)) (trail.Form 6 ∷ trail.Nothing ∷ [])
+        ≡ codes "ringsearch: trail 1 Form 6\n" ∷ codes "ringsearch: trail 2 Nothing\n" ∷ [] }
 {}
 
 /// The line of each fault of the command line.
 pub fn faults_of_words_have_their_lines()
     ensures { map (λ f. note_line (ended.Words f)) (wrong.Line ∷ wrong.Workers ∷ wrong.Turns ∷ wrong.Number ∷ wrong.Mode
-        ∷ wrong.Mixed ∷ wrong.NoMemory ∷ [])
+        ∷ wrong.Mixed ∷ wrong.NoMemory ∷ wrong.Every ∷ [])
         ≡ codes "ringsearch: words 1 Line\n" ∷ codes "ringsearch: words 2 Workers\n"
         ∷ codes "ringsearch: words 3 Turns\n" ∷ codes "ringsearch: words 4 Number\n"
         ∷ codes "ringsearch: words 5 Mode\n" ∷ codes "ringsearch: words 6 Mixed\n"
-        ∷ codes "ringsearch: words 7 NoMemory\n" ∷ [] }
+        ∷ codes "ringsearch: words 7 NoMemory\n" ∷ codes "ringsearch: words 8 Every\n" ∷ [] }
 {}
 
 /// The line of each fault of a problem, with its details in their order: the indexes, the numbers, which may be negative,

@@ -9,17 +9,17 @@ ghost use Rattle.cr_model.specs.Examples.{asks, on_six, minor_lead};
 ghost use Rattle.cr_model.specs.Checkpoints.{CanGoOn};
 ghost use Rattle.cr_explore.specs.Searches.{searched};
 ghost use Rattle.cr_store.specs.Written.{lists};
-ghost use Rattle.cr_top.specs.Runs.{RunsTo};
+ghost use Rattle.cr_trail.specs.Runs.{RunsTo};
 ghost use Rattle.cr_top.specs.Made.{made_length, made_problem as problem_made_of, IsSummaryOf};
 
-use crate::boards::{BOARD_TURNS, run_by};
+use crate::boards::run_by;
 use crate::start::all_of;
 use cr_book::laws::what_was_found_whole_is_the_book;
 use cr_book::{sort_found, summary_text};
 use cr_explore::{Search, make_search};
 use cr_model::{Calling, Lead, Problem, Query, Step};
 use cr_row::{Change, NoMemory, Stage};
-use cr_store::Left;
+use cr_store::Remaining;
 use cr_store::laws::each_touch_is_covered_once;
 use std::alloc::Global;
 use std::sync::Wait;
@@ -65,7 +65,7 @@ fn search_all<R: AllocGlobal + Threads + Wait + Sync>(
     rt: &R,
     workers: u32,
     problem: &Problem,
-) -> Result<Left, NoMemory>
+) -> Result<Remaining, NoMemory>
     requires some_workers { 1 ≤ workers }
     requires few_workers { workers ≤ 64 }
     ensures { IfOk result (λ left. RunsTo problem.now [] (([] ∷ []) ∷ []) None left.found.items (lists left.jobs.items)) }
@@ -81,14 +81,14 @@ fn left_by<R: AllocGlobal + Threads + Wait + Sync>(
     rt: &R,
     workers: u32,
     search: &Search,
-    left: Left,
-) -> Result<Left, NoMemory>
+    left: Remaining,
+) -> Result<Remaining, NoMemory>
     requires goes_on { CanGoOn (searched search.now) left.found.items (lists left.jobs.items) }
     requires some_workers { 1 ≤ workers }
     requires few_workers { workers ≤ 64 }
     ensures { IfOk result (λ now. RunsTo (searched search.now) left.found.items (lists left.jobs.items) None now.found.items (lists now.jobs.items)) }
 {
-    let went = run_by(rt, workers, search, left, None, BOARD_TURNS)?;
+    let went = run_by(rt, workers, search, left, None)?;
     Ok(went.left)
 }
 

@@ -4,7 +4,7 @@ ghost use Rattle.std.specs.Prelude.{◌≡◌, ◌≤◌, ◌++◌, map, codes};
 ghost use Rattle.std.specs.Fmt.{decimal, signed_decimal};
 ghost use Rattle.cr_io.specs.Causes.{Rose};
 ghost use Rattle.cr_top.specs.Noted.{IsWritten, AppendsFront};
-ghost use Rattle.cr_top.specs.Lines.{shown, notation_words, fault_words, problem_words, check_words, line, note_line};
+ghost use Rattle.cr_top.specs.Lines.{shown, notation_words, fault_words, problem_words, check_words, trail_words, line, note_line};
 ghost use Rattle.cr_top.specs.Pieces.{piece_text, text_of};
 
 use crate::Status;
@@ -13,6 +13,7 @@ use crate::piece::Piece::*;
 use cr_io::{Sink, WriteFault, write_whole};
 use cr_model::{CountAt, NotationFault, ProblemFault, Whose};
 use cr_store::CheckFault;
+use cr_trail::TrailFault;
 use cr_words::WordsFault;
 use itoa::Buffer;
 
@@ -135,6 +136,7 @@ fn write_words<N: Sink>(notes: &mut N, fault: WordsFault) -> Result<(), WriteFau
         WordsFault::Mode => write_line(notes, &[Text(b"words 5 Mode")]),
         WordsFault::Mixed => write_line(notes, &[Text(b"words 6 Mixed")]),
         WordsFault::NoMemory => write_line(notes, &[Text(b"words 7 NoMemory")]),
+        WordsFault::Every => write_line(notes, &[Text(b"words 8 Every")]),
     }
 }
 
@@ -279,6 +281,16 @@ fn write_check<N: Sink>(notes: &mut N, fault: &CheckFault) -> Result<(), WriteFa
     }
 }
 
+// Appends the line of why a text has no last block: its number, its name and its details.
+fn write_trail<N: Sink>(notes: &mut N, fault: TrailFault) -> Result<(), WriteFault>
+    ensures { IsWritten N.grew N.faults notes.old notes.new result (line (codes "trail " ++ trail_words fault)) }
+{
+    match fault {
+        TrailFault::Form(at) => write_line(notes, &[Text(b"trail 1 Form "), Number(at)]),
+        TrailFault::Nothing => write_line(notes, &[Text(b"trail 2 Nothing")]),
+    }
+}
+
 // Appends the line of a status, if the run did not finish.
 fn write_status<N: Sink>(notes: &mut N, status: &Status) -> Result<(), WriteFault>
     ensures written { IsWritten N.grew N.faults notes.old notes.new result (note_line status.now) }
@@ -297,6 +309,7 @@ fn write_status<N: Sink>(notes: &mut N, status: &Status) -> Result<(), WriteFaul
         Status::WriteFault => write_line(notes, &[Text(b"write failed")]),
         Status::NoMemory => write_line(notes, &[Text(b"no memory")]),
         Status::TooLong => write_line(notes, &[Text(b"input too long")]),
+        Status::Trail(fault) => write_trail(notes, *fault),
     }
 }
 

@@ -33,8 +33,8 @@ pub fn prepare<R: AllocGlobal + Threads + Sync, S: Source>(
     Ok(Prepared { start, search })
 }
 
-// All that is left in the source.
-fn input_of<S: Source>(alloc: Global, source: &mut S) -> Result<Vec<u8>, Refusal>
+/// All that is left in the source.
+pub fn input_of<S: Source>(alloc: Global, source: &mut S) -> Result<Vec<u8>, Refusal>
     ensures reads { ReadsInput (record { took = S.took; left = S.left; faults = S.faults; old = source.old; new = source.new }) result }
     ensures later { S.faults source.old ≤ S.faults source.new }
 {

@@ -2,12 +2,14 @@
 
 ghost use Rattle.std.specs.Prelude.{◌≡◌};
 ghost use Rattle.cr_top.specs.Endings.{status_of};
+ghost use Rattle.cr_top.specs.Refused.{trail_result};
 
 use crate::Status;
 use cr_io::{ReadEnd, WriteFault};
 use cr_model::ProblemFault;
 use cr_row::NoMemory;
 use cr_store::CheckFault;
+use cr_trail::{TrailEnd, TrailFault};
 use cr_words::WordsFault;
 
 /// Why what is wished for was not done: for the words, the form of the input, the reading, the writing, or the memory.
@@ -20,6 +22,7 @@ pub enum Refusal {
     WriteFault,
     NoMemory,
     TooLong,
+    Trail(TrailFault),
 }
 
 impl From<NoMemory> for Refusal {
@@ -41,6 +44,17 @@ impl From<WriteFault> for Refusal {
 
     fn from(_: WriteFault) -> Refusal {
         Refusal::WriteFault
+    }
+}
+
+impl From<TrailFault> for Refusal {
+    ghost use Rattle.std.specs.Prelude.{◌≡◌};
+    ghost use Rattle.cr_top.specs.declared.refusal.Refusal.TheVariants as refusal;
+
+    ghost from_gives = { λ fault why. why ≡ refusal.Trail fault };
+
+    fn from(fault: TrailFault) -> Refusal {
+        Refusal::Trail(fault)
     }
 }
 
@@ -73,5 +87,17 @@ pub fn status_for(outcome: Result<Option<u64>, Refusal>) -> Status
         Err(Refusal::WriteFault) => Status::WriteFault,
         Err(Refusal::NoMemory) => Status::NoMemory,
         Err(Refusal::TooLong) => Status::TooLong,
+        Err(Refusal::Trail(fault)) => Status::Trail(fault),
+    }
+}
+
+/// The trail was written whole, or it was not for this reason.
+pub fn result_for(end: TrailEnd) -> Result<Option<u64>, Refusal>
+    ensures { result ≡ trail_result end }
+{
+    match end {
+        TrailEnd::Done => Ok(None),
+        TrailEnd::WriteFault => Err(Refusal::WriteFault),
+        TrailEnd::NoMemory => Err(Refusal::NoMemory),
     }
 }

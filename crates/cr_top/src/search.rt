@@ -7,14 +7,15 @@ ghost use Rattle.cr_model.specs.ProblemFiles.{ProblemFile};
 ghost use Rattle.cr_model.specs.Sizes.{most_rows, size_of_all};
 ghost use Rattle.cr_model.specs.Inputs.{Input};
 ghost use Rattle.cr_store.specs.Written.{lists};
-ghost use Rattle.cr_top.specs.Runs.{KeepsTo, IsLeft, RunsTo};
+ghost use Rattle.cr_trail.specs.Runs.{KeepsTo, RunsTo};
+ghost use Rattle.cr_top.specs.Runs.{IsLeft};
 ghost use Rattle.cr_top.specs.Starts.{IsStart};
 ghost use Rattle.cr_top.specs.Endings.{EndsSearch, IsDue, status_of};
 ghost use Rattle.cr_top.specs.Refused.{WritesSearch};
 
 use crate::Status;
 use crate::answers::inputs_have_one_answer;
-use crate::boards::{BOARD_TURNS, Went, run_by, run_by_one};
+use crate::boards::{run_by, run_by_one};
 use crate::gate::{Gate, Gated};
 use crate::preparing::prepare;
 use crate::refusal::{Refusal, status_for};
@@ -23,6 +24,7 @@ use crate::start::Start;
 use crate::writing::write_beside;
 use cr_io::{Sink, Source};
 use cr_model::Problem;
+use cr_trail::RunProgress;
 use std::sync::Wait;
 use std::thread::Threads;
 
@@ -85,7 +87,7 @@ fn searched_alone<R: AllocGlobal + Threads + Sync, S: Source, K: Sink, G: Gate +
         explorer: &prepared.search,
         gate,
     };
-    let went = run_by_one(rt.alloc(), &gated, left, turns, BOARD_TURNS)?;
+    let went = run_by_one(rt.alloc(), &gated, left, turns)?;
     write_search(rt, 1, &problem, &bytes, went, turns, sink)
 }
 
@@ -120,7 +122,7 @@ pub fn searched_together<
         explorer: &prepared.search,
         gate,
     };
-    let went = run_by(rt, workers, &gated, left, turns, BOARD_TURNS)?;
+    let went = run_by(rt, workers, &gated, left, turns)?;
     write_search(rt, workers, &problem, &bytes, went, turns, sink)
 }
 
@@ -130,7 +132,7 @@ fn write_search<R: AllocGlobal + Threads + Sync, K: Sink>(
     workers: u32,
     problem: &Problem,
     bytes: &[u8],
-    went: Went,
+    went: RunProgress,
     turns: Option<u64>,
     sink: &mut K,
 ) -> Result<Option<u64>, Refusal>

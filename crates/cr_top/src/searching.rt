@@ -6,10 +6,10 @@ ghost use Rattle.cr_model.specs.ProblemFiles.{ProblemFile};
 ghost use Rattle.cr_book.specs.Pieces.{pieces_joined};
 ghost use Rattle.cr_store.specs.Written.{lists};
 ghost use Rattle.cr_top.specs.Starts.{IsStart};
-ghost use Rattle.cr_top.specs.Runs.{IsLeft, RunsTo, StopsAfter};
+ghost use Rattle.cr_trail.specs.Runs.{RunsTo};
+ghost use Rattle.cr_top.specs.Runs.{IsLeft, StopsAfter};
 ghost use Rattle.cr_top.specs.Texts.{IsStopText, IsTextAfter, IsOutcomeOf};
 
-use crate::boards::Went;
 use crate::outcome::Outcome;
 use cr_book::laws::what_was_found_whole_is_the_book;
 use cr_book::{BookPieces, book_pieces};
@@ -17,7 +17,8 @@ use cr_model::Problem;
 use cr_model::laws::sizes_are_sums;
 use cr_row::NoMemory;
 use cr_store::laws::each_touch_is_covered_once;
-use cr_store::{Left, left_in_order, write_parts};
+use cr_store::{Remaining, remaining_in_order, write_parts};
+use cr_trail::RunProgress;
 use std::alloc::Global;
 use std::thread::Threads;
 
@@ -28,7 +29,7 @@ pub fn outcome_of<R: AllocGlobal + Threads + Sync>(
     workers: u32,
     problem: &Problem,
     bytes: &[u8],
-    went: Went,
+    went: RunProgress,
     turns: Option<u64>,
 ) -> Result<Outcome, NoMemory>
     requires file { ProblemFile bytes.now problem.now }
@@ -51,7 +52,7 @@ pub fn outcome_of<R: AllocGlobal + Threads + Sync>(
 }
 
 // After how many turns the search stopped, if some job is left.
-fn stopped_after(left: &Left, turns: Option<u64>) -> Option<u64>
+fn stopped_after(left: &Remaining, turns: Option<u64>) -> Option<u64>
     ensures { StopsAfter (lists left.now.jobs.items) turns result }
 {
     if left.jobs.is_empty() { None } else { turns }
@@ -63,14 +64,14 @@ fn pieces_after<R: AllocGlobal + Threads + Sync>(
     workers: u32,
     problem: &Problem,
     bytes: &[u8],
-    went: Went,
+    went: RunProgress,
     stopped: Option<u64>,
 ) -> Result<BookPieces, NoMemory>
     requires file { ProblemFile bytes.now problem.now }
     requires came { IsLeft problem.now went.left.found.items (lists went.left.jobs.items) }
     ensures { IfOk result (λ made. IsTextAfter problem.now bytes.now went.left.found.items (lists went.left.jobs.items) stopped (pieces_joined made.pieces.items)) }
 {
-    let Went { left, handed } = went;
+    let RunProgress { left, handed } = went;
     match stopped {
         Some(_) => checkpoint_after(rt.alloc(), problem, bytes, left),
         None => book_pieces(
@@ -89,13 +90,13 @@ fn checkpoint_after(
     alloc: Global,
     problem: &Problem,
     bytes: &[u8],
-    left: Left,
+    left: Remaining,
 ) -> Result<BookPieces, NoMemory>
     requires file { ProblemFile bytes.now problem.now }
     requires came { IsLeft problem.now left.found.items (lists left.jobs.items) }
     ensures { IfOk result (λ made. IsStopText problem.now bytes.now left.found.items (lists left.jobs.items) (pieces_joined made.pieces.items)) }
 {
-    let ordered = left_in_order(alloc, problem, left.found, left.jobs)?;
+    let ordered = remaining_in_order(alloc, problem, left.found, left.jobs)?;
     let text = checkpoint_of(alloc, problem, bytes, &ordered)?;
     let pieces = one_piece(alloc, text)?;
     Ok(BookPieces {
@@ -109,7 +110,7 @@ fn checkpoint_of(
     alloc: Global,
     problem: &Problem,
     bytes: &[u8],
-    left: &Left,
+    left: &Remaining,
 ) -> Result<Vec<u8>, NoMemory>
     requires file { ProblemFile bytes.now problem.now }
     requires goes_on { CanGoOn problem.now left.now.found.items (lists left.now.jobs.items) }

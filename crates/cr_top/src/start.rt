@@ -12,7 +12,7 @@ use cr_node::Node;
 use cr_node::laws::work_goes_on;
 use cr_read::read_problem;
 use cr_row::NoMemory;
-use cr_store::{CheckFault, Left, read_checkpoint};
+use cr_store::{CheckFault, Remaining, read_checkpoint};
 use std::alloc::Global;
 
 /// What an input says: the problem's bytes, the problem, and what is left of its search.
@@ -20,7 +20,7 @@ use std::alloc::Global;
 pub struct Start {
     pub bytes: Vec<u8>,
     pub problem: Problem,
-    pub left: Left,
+    pub left: Remaining,
 }
 
 /// What an input says, or why it is none.
@@ -43,7 +43,7 @@ fn resumed(alloc: Global, input: &[u8]) -> Result<Start, Refusal>
         Ok(checkpoint) => Ok(Start {
             bytes: checkpoint.problem_bytes,
             problem: checkpoint.problem,
-            left: Left {
+            left: Remaining {
                 found: checkpoint.found,
                 jobs: checkpoint.jobs,
             },
@@ -81,14 +81,14 @@ fn begun(alloc: Global, input: Vec<u8>, problem: Problem) -> Result<Start, Refus
 
 /// What is left of a search that has not begun: nothing is found, and the only job is the root. Err where no memory is
 /// left.
-pub fn all_of(alloc: Global, problem: &Problem) -> Result<Left, NoMemory>
+pub fn all_of(alloc: Global, problem: &Problem) -> Result<Remaining, NoMemory>
     ensures found { IfOk result (λ left. left.found.items ≡ []) }
     ensures jobs { IfOk result (λ left. lists left.jobs.items ≡ ([] ∷ []) ∷ []) }
     ensures goes_on { IfOk result (λ left. CanGoOn problem.now left.found.items (lists left.jobs.items)) }
 {
     work_goes_on();
     let jobs = root_job(alloc)?;
-    Ok(Left {
+    Ok(Remaining {
         found: Vec::new(alloc),
         jobs,
     })

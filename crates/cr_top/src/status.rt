@@ -5,12 +5,13 @@ ghost use Rattle.cr_top.specs.Codes.{code_of};
 
 use cr_model::ProblemFault;
 use cr_store::CheckFault;
+use cr_trail::TrailFault;
 use cr_words::WordsFault;
 
 /// How a call of the program ended.
 #[derive(Debug, Drop)]
 pub enum Status {
-    /// The book, or the summary of a made problem, was written whole.
+    /// The book, the summary of a made problem, the trail or its last checkpoint was written whole.
     Finished,
     /// The words of the command line are not accepted: the first that is wrong.
     Words(WordsFault),
@@ -28,6 +29,8 @@ pub enum Status {
     NoMemory,
     /// The source gave more than 2^40 bytes.
     TooLong,
+    /// The input has no last block: it is not of blocks, or no block is whole.
+    Trail(TrailFault),
 }
 
 impl Status {
@@ -45,6 +48,7 @@ impl Status {
             Status::WriteFault => 7,
             Status::NoMemory => 8,
             Status::TooLong => 9,
+            Status::Trail(_) => 10,
         }
     }
 }

@@ -1,34 +1,39 @@
 //! The top call.
 
-ghost use Rattle.std.specs.Prelude.{◌≡◌, ℕ, ◌^◌, ◌<◌, ◌≤◌, ◌⊎◌, Option, Some, List, length};
+ghost use Rattle.std.specs.Prelude.{◌≡◌, ℕ, ◌^◌, ◌<◌, ◌≤◌, ◌⊎◌, Option, Some, List, length, Ok};
 ghost use Rattle.cr_io.specs.Causes.{Rose};
 ghost use Rattle.cr_model.specs.Problems.{ProblemParts};
 ghost use Rattle.cr_model.specs.Sizes.{most_rows, size_of_all};
 ghost use Rattle.cr_model.specs.Inputs.{Input};
+ghost use Rattle.cr_trail.specs.Lasts.{IsLast};
 ghost use Rattle.cr_words.specs.Commands.{texts_of};
-ghost use Rattle.cr_words.specs.Readings.{IsAccepted, IsFaultOf};
-ghost use Rattle.cr_top.specs.Runs.{KeepsTo};
+ghost use Rattle.cr_words.specs.Readings.{IsAccepted, IsWordsFaultOf};
+ghost use Rattle.cr_trail.specs.Runs.{KeepsTo};
 ghost use Rattle.cr_top.specs.Lines.{note_line};
 ghost use Rattle.cr_top.specs.Noted.{AppendsFront};
-ghost use Rattle.cr_top.specs.Endings.{AsksSearch, AsksMake, EndsMake, EndsWish, Ends, IsDue, status_of};
+ghost use Rattle.cr_top.specs.Endings.{AsksSearch, AsksMake, AsksTrail, AsksLast, EndsMake, EndsWish, Ends, HasTurns, IsDue, IsLastDue, status_of};
 
 use crate::Status;
 use crate::answers::inputs_have_one_answer;
 use crate::gate::Gate;
+use crate::last::last_written;
 use crate::making::summary_for;
 use crate::notes::write_note;
 use crate::refusal::{Refusal, status_for};
 use crate::search::{search_alone, searched_together};
+use crate::trailing::{trail_alone, trailed_together};
 use cr_io::{Sink, Source, write_whole};
+use cr_trail::last_laws::each_text_has_one_last_block;
 use cr_words::laws::{words_are_accepted_or_have_a_fault, words_read_as_one_wish};
 use cr_words::{Mode, Wish, WordsFault, read_words};
 use std::sync::Wait;
 use std::thread::Threads;
 
 /// Does all that the program does: reads an input from the source, searches it, and writes its book or, after the turns
-/// that are allowed, a checkpoint to the sink; or makes a problem of a number and writes its summary.
+/// that are allowed, a checkpoint to the sink, or a trail of checkpoints; or writes the last whole checkpoint of what is
+/// left of a trail; or makes a problem of a number and writes its summary.
 ///
-/// Nothing is written before the whole text is made. Each status but `Finished` writes its line to the notes; a fault of
+/// Nothing is written before the whole text is made, but that of a trail is written block by block. Each status but `Finished` writes its line to the notes; a fault of
 /// theirs ends the line and changes no status. Each exploration of an input's search enters the gate first.
 pub fn ringsearch<
     R: AllocGlobal + Threads + Wait + Sync,
@@ -39,7 +44,7 @@ pub fn ringsearch<
 >(rt: &R, words: &[String], source: &mut S, sink: &mut K, notes: &mut N, gate: &G) -> Status
     ensures ends { Ends (record { took = S.took; left = S.left; faults = S.faults; old = source.old; new = source.new })
         (record { grew = K.grew; faults = K.faults; old = sink.old; new = sink.new }) (texts_of words.now) result }
-    ensures refuses_words { (fault : WordsFault) → IsFaultOf (texts_of words.now) fault →
+    ensures refuses_words { (fault : WordsFault) → IsWordsFaultOf (texts_of words.now) fault →
         (result ≡ Status.Words fault) ⊎ (result ≡ Status.NoMemory) }
     ensures complete { (turns : Option ℕ) → AsksSearch (texts_of words.now) turns →
         (input bytes : List ℕ) (p : ProblemParts) (found nodes : List (List ℕ)) →
@@ -59,6 +64,25 @@ pub fn ringsearch<
         (input : List ℕ) → S.left source.old ≡ Some input → (due : Status) → IsDue input due →
         (Rose (S.faults source.old) (S.faults source.new) → ⊥) →
         (result ≡ due) ⊎ (result ≡ Status.NoMemory) }
+    ensures trails { (every : ℕ) → AsksTrail (texts_of words.now) every →
+        (input bytes : List ℕ) (p : ProblemParts) (found nodes : List (List ℕ)) →
+        S.left source.old ≡ Some input → length input ≤ 2 ^ 40 → Input input bytes p found nodes →
+        (Rose (S.faults source.old) (S.faults source.new) → ⊥) →
+        (Rose (K.faults sink.old) (K.faults sink.new) → ⊥) →
+        (result ≡ Status.Finished) ⊎ (result ≡ Status.NoMemory) }
+    ensures refuses_trail { (every : ℕ) → AsksTrail (texts_of words.now) every →
+        (input : List ℕ) → S.left source.old ≡ Some input → (due : Status) → IsDue input due →
+        (Rose (S.faults source.old) (S.faults source.new) → ⊥) →
+        (result ≡ due) ⊎ (result ≡ Status.NoMemory) }
+    ensures lasts { AsksLast (texts_of words.now) → (input : List ℕ) (last : ℕ × ℕ) →
+        S.left source.old ≡ Some input → length input ≤ 2 ^ 40 → IsLast input (Ok last) →
+        (Rose (S.faults source.old) (S.faults source.new) → ⊥) →
+        (Rose (K.faults sink.old) (K.faults sink.new) → ⊥) →
+        (result ≡ Status.Finished) ⊎ (result ≡ Status.NoMemory) }
+    ensures refuses_last { AsksLast (texts_of words.now) →
+        (input : List ℕ) → S.left source.old ≡ Some input → (due : Status) → IsLastDue input due →
+        (Rose (S.faults source.old) (S.faults source.new) → ⊥) →
+        (result ≡ due) ⊎ (result ≡ Status.NoMemory) }
     ensures makes { (number : ℕ) → AsksMake (texts_of words.now) number →
         (Rose (K.faults sink.old) (K.faults sink.new) → ⊥) →
         (result ≡ Status.Finished) ⊎ (result ≡ Status.NoMemory) }
@@ -73,6 +97,7 @@ pub fn ringsearch<
     words_read_as_one_wish();
     words_are_accepted_or_have_a_fault();
     inputs_have_one_answer();
+    each_text_has_one_last_block();
     let status = ended(rt, words, source, sink, gate);
     write_note(notes, &status);
     status
@@ -109,6 +134,7 @@ fn carried_out<R: AllocGlobal + Threads + Wait + Sync, S: Source, K: Sink, G: Ga
 ) -> Status
     requires some_workers { 1 ≤ wish.workers }
     requires few_workers { wish.workers ≤ 64 }
+    requires some_turns { HasTurns wish.mode }
     ensures ends { EndsWish (record { took = S.took; left = S.left; faults = S.faults; old = source.old; new = source.new })
         (record { grew = K.grew; faults = K.faults; old = sink.old; new = sink.new }) wish.mode wish.turns result }
     ensures source_later { S.faults source.old ≤ S.faults source.new }
@@ -125,6 +151,16 @@ fn carried_out<R: AllocGlobal + Threads + Wait + Sync, S: Source, K: Sink, G: Ga
             gate,
         )),
         Mode::Make(number) => status_for(made(rt, wish.workers, number, sink)),
+        Mode::Trail(every) if wish.workers == 1 => trail_alone(rt, every, source, sink, gate),
+        Mode::Trail(every) => status_for(trailed_together(
+            rt,
+            wish.workers,
+            every,
+            source,
+            sink,
+            gate,
+        )),
+        Mode::Last => status_for(last_written(rt.alloc(), source, sink)),
     }
 }
 

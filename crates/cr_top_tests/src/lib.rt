@@ -16,4 +16,6 @@ mod test_calls;
 #[cfg(test)]
 mod tests;
 #[cfg(test)]
+mod trail_tests;
+#[cfg(test)]
 mod worker_tests;

@@ -6,6 +6,7 @@ use cr_model::{CountAt, KeyPath, NotationFault, Whose};
 use cr_store::CheckFault;
 use cr_top::Status::{self, Checkpoint, Problem, Words};
 use cr_top::write_note;
+use cr_trail::TrailFault;
 use cr_words::WordsFault::{self, Line, Mixed, Mode, Number, Turns, Workers};
 use std::test::Fail;
 
@@ -18,7 +19,7 @@ fn holds(line: &'static str, note: Option<&[u8]>) -> Result<(), Fail> {
     }
 }
 
-const STATUSES: [(Status, u8, &str); 16] = [
+const STATUSES: [(Status, u8, &str); 19] = [
     (Status::Finished, 0, ""),
     (Words(Line), 2, "ringsearch: words 1 Line\n"),
     (Words(Workers), 2, "ringsearch: words 2 Workers\n"),
@@ -31,6 +32,7 @@ const STATUSES: [(Status, u8, &str); 16] = [
         2,
         "ringsearch: words 7 NoMemory\n",
     ),
+    (Words(WordsFault::Every), 2, "ringsearch: words 8 Every\n"),
     (Status::Stopped(0), 3, "ringsearch: stopped after 0 turns\n"),
     (
         Status::Stopped(9_223_372_036_854_775_807),
@@ -46,6 +48,16 @@ const STATUSES: [(Status, u8, &str); 16] = [
         Checkpoint(CheckFault::Form(1)),
         5,
         "ringsearch: checkpoint 1 Form 1\n",
+    ),
+    (
+        Status::Trail(TrailFault::Form(6)),
+        10,
+        "ringsearch: trail 1 Form 6\n",
+    ),
+    (
+        Status::Trail(TrailFault::Nothing),
+        10,
+        "ringsearch: trail 2 Nothing\n",
     ),
 ];
 

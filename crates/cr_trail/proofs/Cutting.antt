@@ -18,7 +18,7 @@ use Rattle.cr_trail.specs.declared.last.TrailFault.{TrailFault}
 use Rattle.cr_trail.specs.declared.last.TrailFault.TheVariants as fault
 
 -- one block more
-blocks_more : (before : List (List ℕ)) (body : List ℕ) → blocks (before ++ body ∷ []) ≡ blocks before ++ block body
+pub blocks_more : (before : List (List ℕ)) (body : List ℕ) → blocks (before ++ body ∷ []) ≡ blocks before ++ block body
 blocks_more before body = flat_map-append block before (body ∷ []) ∙ ap (λ t. blocks before ++ t) (append-nil (block body))
 
 -- the first bytes of a text, more than the first ones of two
@@ -56,7 +56,7 @@ module _ (law : OneAnswer) where
   same_size place size other most is = cc
 
   -- two texts that begin with blocks have one body, and one rest
-  one_body : (b c x y : List ℕ) → IsBody b → IsBody c → block b ++ x ≡ block c ++ y → (b ≡ c) × (x ≡ y)
+  pub one_body : (b c x y : List ℕ) → IsBody b → IsBody c → block b ++ x ≡ block c ++ y → (b ≡ c) × (x ≡ y)
   one_body b c x y b_size c_size same = (bodies, append_cancel_left (block b) x y (same ∙ ap (λ d. block d ++ y) (sym bodies)))
     where
       many : length b ≡ length c
@@ -74,7 +74,7 @@ module _ (law : OneAnswer) where
       bodies = sym (take-append_seam b x) ∙ ap (take (length b)) behind ∙ ap (λ n. take n (c ++ y)) many ∙ take-append_seam c y
 
   -- a text that is over begins with no whole block
-  over_unbegun : (rest body : List ℕ) → IsOver rest → Begins rest body → ⊥
+  pub over_unbegun : (rest body : List ℕ) → IsOver rest → Begins rest body → ⊥
   over_unbegun rest body (inl none) begins = omega (arith, ap length (sym none ∙ begins.is), length-append (block body) begins.rest)
   over_unbegun rest body (inr torn) begins =
       let same : next.Torn ≡ next.Block (length (number_line (codes "block") (length body))) (length body) =

@@ -1,2 +1,11 @@
 pub mod Reading
 pub mod Cutting
+pub mod OneLast
+pub mod Going
+pub mod Ordering
+pub mod Inputs
+pub mod Fronts
+pub mod Trailing
+pub mod Written
+pub mod Counting
+pub mod Resuming

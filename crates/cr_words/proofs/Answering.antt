@@ -5,11 +5,11 @@ use Rattle.std.proofs.lemmas.Bool.{both_ways}
 use Rattle.clap.specs.Words.{Row, Text}
 use Rattle.cr_words.specs.Commands.{are_taken, assigned, assigned_in, rows_in}
 use Rattle.cr_words.specs.Values.{Assigned, IsWishOf, has_fault, faults_of}
-use Rattle.cr_words.specs.Readings.{IsFirst, IsRefused, IsAccepted, IsFaultOf, MayFail}
+use Rattle.cr_words.specs.Readings.{IsFirst, IsRefused, IsAccepted, IsWordsFaultOf, MayFail}
 use Rattle.cr_words.proofs.Faults.{first_holds}
 use Rattle.cr_words.proofs.Wishes.{one_wish, not_both, one_first, wish_or_fault}
 use Rattle.cr_words.specs.declared.fault.WordsFault.{WordsFault}
-use Rattle.cr_words.specs.declared.fault.WordsFault.TheVariants.{Line, Workers, Turns, Number, Mode as NoMode, Mixed, NoMemory}
+use Rattle.cr_words.specs.declared.fault.WordsFault.TheVariants.{Line, Workers, Turns, Number, Mode as NoMode, Mixed, NoMemory, Every}
 use Rattle.cr_words.specs.declared.wish.Wish.{Wish}
 
 -- a fault of no value is none of theirs
@@ -20,13 +20,14 @@ line_or_memory : (a : Assigned) → (has_fault a Line ≡ false) × (has_fault a
 unfolding has_fault
 line_or_memory a = (refl, refl)
 
-first_is_fault : (words : List Text) (f : WordsFault) → are_taken words ≡ true → IsFirst (faults_of (assigned words)) f → IsFaultOf words f
+first_is_fault : (words : List Text) (f : WordsFault) → are_taken words ≡ true → IsFirst (faults_of (assigned words)) f → IsWordsFaultOf words f
 first_is_fault words Line taken first = absurd (of_value (assigned words) Line (line_or_memory (assigned words)).0 first)
 first_is_fault words Workers taken first = (taken, first)
 first_is_fault words Turns taken first = (taken, first)
 first_is_fault words Number taken first = (taken, first)
 first_is_fault words NoMode taken first = (taken, first)
 first_is_fault words Mixed taken first = (taken, first)
+first_is_fault words Every taken first = (taken, first)
 first_is_fault words NoMemory taken first = absurd (of_value (assigned words) NoMemory (line_or_memory (assigned words)).1 first)
 
 -- the answer of the values, of words that are taken
@@ -53,10 +54,11 @@ refused_may_fail words Turns is = absurd is
 refused_may_fail words Number is = absurd is
 refused_may_fail words NoMode is = absurd is
 refused_may_fail words Mixed is = absurd is
+refused_may_fail words Every is = absurd is
 refused_may_fail words NoMemory is = inl refl
 
 -- words are accepted or have one fault
-fault_parts : (words : List Text) (f : WordsFault) → IsFaultOf words f
+fault_parts : (words : List Text) (f : WordsFault) → IsWordsFaultOf words f
     → ((f ≡ Line) × (are_taken words ≡ false)) ⊎ ((are_taken words ≡ true) × IsFirst (faults_of (assigned words)) f)
 fault_parts words Line is = inl (refl, is)
 fault_parts words Workers is = inr is
@@ -64,16 +66,17 @@ fault_parts words Turns is = inr is
 fault_parts words Number is = inr is
 fault_parts words NoMode is = inr is
 fault_parts words Mixed is = inr is
+fault_parts words Every is = inr is
 fault_parts words NoMemory is = absurd is
 
-pub not_accepted : (words : List Text) (w : Wish) (f : WordsFault) → IsAccepted words w → IsFaultOf words f → ⊥
+pub not_accepted : (words : List Text) (w : Wish) (f : WordsFault) → IsAccepted words w → IsWordsFaultOf words f → ⊥
 not_accepted words w f is fails = by (fault_parts words f fails)
   where
     by : ((f ≡ Line) × (are_taken words ≡ false)) ⊎ ((are_taken words ≡ true) × IsFirst (faults_of (assigned words)) f) → ⊥
     by (inl line) = both_ways _ line.1 is.0
     by (inr first) = not_both (assigned words) w f is.1 first.1
 
-pub one_fault : (words : List Text) (f g : WordsFault) → IsFaultOf words f → IsFaultOf words g → f ≡ g
+pub one_fault : (words : List Text) (f g : WordsFault) → IsWordsFaultOf words f → IsWordsFaultOf words g → f ≡ g
 one_fault words f g is also = by (fault_parts words f is) (fault_parts words g also)
   where
     by : ((f ≡ Line) × (are_taken words ≡ false)) ⊎ ((are_taken words ≡ true) × IsFirst (faults_of (assigned words)) f)
@@ -83,15 +86,15 @@ one_fault words f g is also = by (fault_parts words f is) (fault_parts words g a
     by (inr first) (inl other) = absurd (both_ways _ other.1 first.0)
     by (inr first) (inr other) = one_first (faults_of (assigned words)) f g first.1 other.1
 
-pub accepted_or_fault : (words : List Text) → ((w : Wish) × IsAccepted words w) ⊎ ((f : WordsFault) × IsFaultOf words f)
+pub accepted_or_fault : (words : List Text) → ((w : Wish) × IsAccepted words w) ⊎ ((f : WordsFault) × IsWordsFaultOf words f)
 accepted_or_fault words = by (are_taken words) refl
   where
     of_taken : are_taken words ≡ true → ((w : Wish) × IsWishOf (assigned words) w) ⊎ ((f : WordsFault) × IsFirst (faults_of (assigned words)) f)
-        → ((w : Wish) × IsAccepted words w) ⊎ ((f : WordsFault) × IsFaultOf words f)
+        → ((w : Wish) × IsAccepted words w) ⊎ ((f : WordsFault) × IsWordsFaultOf words f)
     of_taken taken (inl wish) = inl (wish.0, (taken, wish.1))
     of_taken taken (inr fault) = inr (fault.0, first_is_fault words fault.0 taken fault.1)
 
-    by : (b : Bool) → are_taken words ≡ b → ((w : Wish) × IsAccepted words w) ⊎ ((f : WordsFault) × IsFaultOf words f)
+    by : (b : Bool) → are_taken words ≡ b → ((w : Wish) × IsAccepted words w) ⊎ ((f : WordsFault) × IsWordsFaultOf words f)
     by true taken = of_taken taken (wish_or_fault (assigned words))
     by false taken = inr (Line, taken)
 
@@ -106,7 +109,7 @@ accepted_answer words (Err f) reads (inl memory) w is = inr (ap refused_with mem
 accepted_answer words (Err f) reads (inr fault) w is = absurd (not_accepted words w f is fault)
 
 pub refused_answer : (words : List Text) (r : Result Wish WordsFault) → IfOk r (IsAccepted words) → IfErr r (MayFail words)
-    → (f : WordsFault) → IsFaultOf words f → (r ≡ Err f) ⊎ (r ≡ Err NoMemory)
+    → (f : WordsFault) → IsWordsFaultOf words f → (r ≡ Err f) ⊎ (r ≡ Err NoMemory)
 refused_answer words (Ok v) reads fails f is = absurd (not_accepted words v f reads is)
 refused_answer words (Err g) reads (inl memory) f is = inr (ap refused_with memory)
 refused_answer words (Err g) reads (inr fault) f is = inl (ap refused_with (one_fault words g f fault is))

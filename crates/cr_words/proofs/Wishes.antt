@@ -1,16 +1,16 @@
 -- Assigned values are one wish or have one first fault, and what that makes of an answer.
 use Rattle.std.proofs.Common.{◌≡◌, ◌∙◌, refl, ap, sym, arith, ◌⊎◌, inl, inr, ℕ, Bool, true, false, Option, Some, None, unwrap_or, List, ◌∷◌, length, get_or}
 use Rattle.std.specs.Prelude.{option_map, option_and_then}
-use Rattle.cr_words.specs.Values.{Assigned, Task, IsWishOf, workers_of, turns_of, number_for, task_of, mode_for, exceeds, faults_of}
+use Rattle.cr_words.specs.Values.{Assigned, Task, IsWishOf, workers_of, turns_of, number_for, task_of, every_of, mode_for, search_with, is_mixed, faults_of}
 use Rattle.cr_words.specs.Readings.{IsFirst}
-use Rattle.cr_words.proofs.Faults.{first_workers, first_turns, first_number, first_mode, first_mixed, no_fault}
+use Rattle.cr_words.proofs.Faults.{first_workers, first_turns, first_number, first_mode, first_every, first_mixed, no_fault}
 use Rattle.cr_words.specs.declared.fault.WordsFault.{WordsFault}
-use Rattle.cr_words.specs.declared.fault.WordsFault.TheVariants.{Workers, Turns, Number, Mode as NoMode, Mixed}
+use Rattle.cr_words.specs.declared.fault.WordsFault.TheVariants.{Workers, Turns, Number, Mode as NoMode, Every, Mixed}
 use Rattle.cr_words.specs.declared.table.Kind.{Kind}
 use Rattle.cr_words.specs.declared.table.Kind.TheVariants as kind
 use Rattle.cr_words.specs.declared.wish.Wish.{Wish}
 use Rattle.cr_words.specs.declared.wish.Mode.{Mode}
-use Rattle.cr_words.specs.declared.wish.Mode.TheVariants.{Search, Make}
+use Rattle.cr_words.specs.declared.wish.Mode.TheVariants.{Make, Last}
 
 same_some : {X : Type 0} (x y : X) → Some x ≡ Some y → x ≡ y
 same_some x y e = ap (λ o. unwrap_or o x) e
@@ -34,9 +34,11 @@ pub one_first : (faults : List WordsFault) (f g : WordsFault) → IsFirst faults
 one_first faults f g first also = ap (λ (xs : List WordsFault). get_or xs 0 f) (sym first.1 ∙ also.1)
 
 -- a task's mode, where the numbers are right
-some_mode : (a : Assigned) (k : ℕ) → number_for a ≡ Some k → (kind : Kind) → (mode : Mode) × (mode_for a kind ≡ Some mode)
-some_mode a k is kind.Search = (Search, refl)
-some_mode a k is kind.Make = (Make k, ap (option_map Make) is)
+some_mode : (a : Assigned) (k : ℕ) (h : Option ℕ) → number_for a ≡ Some k → every_of a ≡ Some h
+    → (kind : Kind) → (mode : Mode) × (mode_for a kind ≡ Some mode)
+some_mode a k h is each kind.Search = (search_with h, ap (option_map search_with) each)
+some_mode a k h is each kind.Make = (Make k, ap (option_map Make) is)
+some_mode a k h is each kind.Last = (Last, refl)
 
 pub of_task : (a : Assigned) (task : Task) (mode : Mode) → task_of a ≡ Some task → mode_for a task.kind ≡ Some mode
     → option_and_then (λ task. mode_for a task.kind) (task_of a) ≡ Some mode
@@ -45,25 +47,30 @@ of_task a task mode named is = ap (option_and_then (λ (task : Task). mode_for a
 abbrev WishOrFault : Assigned → Type 0
 WishOrFault a = ((w : Wish) × IsWishOf a w) ⊎ ((f : WordsFault) × IsFirst (faults_of a) f)
 
-by_mixed : (a : Assigned) (n : ℕ) (t : Option ℕ) (k : ℕ) (task : Task) → workers_of a ≡ Some n → turns_of a ≡ Some t
-    → number_for a ≡ Some k → task_of a ≡ Some task → (b : Bool) → exceeds a task ≡ b → WishOrFault a
-by_mixed a n t k task is also too named true e = inr (Mixed, first_mixed a n t k task is also too named e)
-by_mixed a n t k task is also too named false e =
-    let mode : (mode : Mode) × (mode_for a task.kind ≡ Some mode) = some_mode a k too task.kind in
+by_mixed : (a : Assigned) (n : ℕ) (t : Option ℕ) (k : ℕ) (task : Task) (h : Option ℕ) → workers_of a ≡ Some n → turns_of a ≡ Some t
+    → number_for a ≡ Some k → task_of a ≡ Some task → every_of a ≡ Some h → (b : Bool) → is_mixed a task ≡ b → WishOrFault a
+by_mixed a n t k task h is also too named each true e = inr (Mixed, first_mixed a n t k task h is also too named each e)
+by_mixed a n t k task h is also too named each false e =
+    let mode : (mode : Mode) × (mode_for a task.kind ≡ Some mode) = some_mode a k h too each task.kind in
     inl (
       record { workers = n; turns = t; mode = mode.0 },
       record {
         has_workers = is;
         has_turns = also;
         has_mode = of_task a task mode.0 named mode.1;
-        right = no_fault a n t k task is also too named e;
+        right = no_fault a n t k task h is also too named each e;
       },
     )
+
+by_every : (a : Assigned) (n : ℕ) (t : Option ℕ) (k : ℕ) (task : Task) → workers_of a ≡ Some n → turns_of a ≡ Some t
+    → number_for a ≡ Some k → task_of a ≡ Some task → (o : Option (Option ℕ)) → every_of a ≡ o → WishOrFault a
+by_every a n t k task is also too named None e = inr (Every, first_every a n t k task is also too named e)
+by_every a n t k task is also too named (Some h) e = by_mixed a n t k task h is also too named e (is_mixed a task) refl
 
 by_mode : (a : Assigned) (n : ℕ) (t : Option ℕ) (k : ℕ) → workers_of a ≡ Some n → turns_of a ≡ Some t → number_for a ≡ Some k
     → (o : Option Task) → task_of a ≡ o → WishOrFault a
 by_mode a n t k is also too None e = inr (NoMode, first_mode a n t k is also too e)
-by_mode a n t k is also too (Some task) e = by_mixed a n t k task is also too e (exceeds a task) refl
+by_mode a n t k is also too (Some task) e = by_every a n t k task is also too e (every_of a) refl
 
 by_number : (a : Assigned) (n : ℕ) (t : Option ℕ) → workers_of a ≡ Some n → turns_of a ≡ Some t
     → (o : Option ℕ) → number_for a ≡ o → WishOrFault a

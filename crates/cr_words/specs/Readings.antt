@@ -26,11 +26,11 @@ abbrev pub IsFirst : List WordsFault → WordsFault → Type 0
 IsFirst faults fault = (rest : List WordsFault) × (faults ≡ fault ∷ rest)
 
 -- the fault of words: they are not taken, or they are and it is the first that is wrong with what they assign
-abbrev pub IsFaultOf : List Text → WordsFault → Type 0
-IsFaultOf words Line = are_taken words ≡ false
-IsFaultOf words NoMemory = ⊥
-IsFaultOf words fault = (are_taken words ≡ true) × IsFirst (faults_of (assigned words)) fault
+abbrev pub IsWordsFaultOf : List Text → WordsFault → Type 0
+IsWordsFaultOf words Line = are_taken words ≡ false
+IsWordsFaultOf words NoMemory = ⊥
+IsWordsFaultOf words fault = (are_taken words ≡ true) × IsFirst (faults_of (assigned words)) fault
 
 -- where a fault may come: memory may always run out
 abbrev pub MayFail : List Text → WordsFault → Type 0
-MayFail words fault = (fault ≡ NoMemory) ⊎ IsFaultOf words fault
+MayFail words fault = (fault ≡ NoMemory) ⊎ IsWordsFaultOf words fault

@@ -7,7 +7,7 @@ use thiserror::Error;
 pub enum WordsFault {
     /// The words are not those of the command line: an unknown option, one given twice or without its value, a word
     /// that belongs to no option, or a request for help or the version.
-    #[error("the words are not --workers, --turns, --do and --number, each once at most and with its value")]
+    #[error("the words are not --workers, --turns, --every, --do and --number, each once at most and with its value")]
     Line,
     /// The workers are not a number from 1 to 64.
     #[error("--workers is not a number from 1 to 64")]
@@ -18,13 +18,16 @@ pub enum WordsFault {
     /// The number of a made problem is not a number from 0 to 2^32 - 1.
     #[error("--number is not a number from 0 to 4294967295")]
     Number,
-    /// What is to be done is neither `search` nor `make`.
-    #[error("--do is neither search nor make")]
+    /// What is to be done is none of `search`, `make` and `last`.
+    #[error("--do is none of search, make and last")]
     Mode,
-    /// `--number` was given for a search, or `--turns` for a made problem.
-    #[error("--number goes with --do make alone, and --turns with --do search alone")]
+    /// An option was given that has no use in what is to be done, or both `--turns` and `--every` were.
+    #[error("an option has no use in what --do names, or --turns and --every are both given")]
     Mixed,
     /// There was not enough memory.
     #[error("there is no memory")]
     NoMemory,
+    /// The turns from one checkpoint to the next are not a number from 1 to 2^63 - 1.
+    #[error("--every is not a number from 1 to 9223372036854775807")]
+    Every,
 }

@@ -5,7 +5,7 @@ ghost use Rattle.std.specs.List.{list_all};
 ghost use Rattle.clap.specs.Words.{Text};
 ghost use Rattle.cr_words.specs.Commands.{are_taken};
 ghost use Rattle.cr_words.specs.Examples.{line, accent, is_line_taken, line_faults};
-ghost use Rattle.cr_words.specs.Readings.{ReadsAs, IsAccepted, IsFaultOf};
+ghost use Rattle.cr_words.specs.Readings.{ReadsAs, IsAccepted, IsWordsFaultOf};
 ghost use Rattle.cr_words.specs.declared.fault.WordsFault.TheVariants as fault;
 ghost use Rattle.cr_words.specs.declared.wish.Mode.TheVariants as mode;
 
@@ -19,11 +19,11 @@ pub fn words_read_as_one_wish()
 /// Words are either accepted as a wish or have one fault.
 pub fn words_are_accepted_or_have_a_fault()
     ensures some { (words : List Text)
-        → ((wish : Wish) × IsAccepted words wish) ⊎ ((fault : WordsFault) × IsFaultOf words fault) }
+        → ((wish : Wish) × IsAccepted words wish) ⊎ ((fault : WordsFault) × IsWordsFaultOf words fault) }
     ensures apart { (words : List Text) (wish : Wish) (fault : WordsFault)
-        → IsAccepted words wish → IsFaultOf words fault → ⊥ }
+        → IsAccepted words wish → IsWordsFaultOf words fault → ⊥ }
     ensures one { (words : List Text) (one other : WordsFault)
-        → IsFaultOf words one → IsFaultOf words other → one ≡ other }
+        → IsWordsFaultOf words one → IsWordsFaultOf words other → one ≡ other }
 {}
 
 /// No word at all is taken, and so are values of any kind behind a name or `=`, and a lone `--`. An unknown option, one
@@ -32,11 +32,13 @@ pub fn lines_are_taken_or_not()
     ensures nothing { are_taken [] ≡ true }
     ensures taken { list_all is_line_taken (codes "--workers 3" ∷ codes "--workers=3" ∷ codes "--turns=5"
         ∷ codes "--turns 5" ∷ codes "--workers=" ∷ codes "--workers " ∷ codes "--do find" ∷ codes "--turns=-1"
-        ∷ (codes "--number " ++ accent) ∷ codes "--" ∷ codes "--do make --number 7 --workers 64" ∷ []) ≡ true }
+        ∷ (codes "--number " ++ accent) ∷ codes "--" ∷ codes "--do make --number 7 --workers 64"
+        ∷ codes "--every 3" ∷ codes "--every=" ∷ codes "--do last --every 3 --turns 5" ∷ []) ≡ true }
     ensures not_taken { list_all (λ text. not (is_line_taken text)) (codes "--bells" ∷ codes "--workers"
         ∷ codes "--workers --turns" ∷ codes "--turns 1 --turns 2" ∷ codes "--do=make --do=make" ∷ codes "--turns -1"
         ∷ codes "--work 3" ∷ codes "find" ∷ codes "" ∷ accent ∷ codes "-- 5" ∷ codes "-t 5" ∷ codes "--help"
-        ∷ codes "-h" ∷ codes "--version" ∷ codes "help" ∷ codes "--workers 3 " ∷ []) ≡ true }
+        ∷ codes "-h" ∷ codes "--version" ∷ codes "help" ∷ codes "--workers 3 " ∷ codes "--every"
+        ∷ codes "--every 1 --every 1" ∷ codes "--every -1" ∷ codes "last" ∷ []) ≡ true }
 {}
 
 /// Lines and their wishes, at the edges of the numbers. Leading zeros are taken.
@@ -56,6 +58,12 @@ pub fn lines_read_as_wishes()
         (record { workers = 1; turns = None; mode = mode.Make 0 }) }
     ensures most_made { ReadsAs (line (codes "--number 4294967295 --do make --workers=1"))
         (record { workers = 1; turns = None; mode = mode.Make 4294967295 }) }
+    ensures trail { ReadsAs (line (codes "--every 1 --workers 2"))
+        (record { workers = 2; turns = None; mode = mode.Trail 1 }) }
+    ensures most_every { ReadsAs (line (codes "--do search --every=9223372036854775807"))
+        (record { workers = 1; turns = None; mode = mode.Trail 9223372036854775807 }) }
+    ensures last { ReadsAs (line (codes "--do last"))
+        (record { workers = 1; turns = None; mode = mode.Last }) }
     ensures lone { ReadsAs (line (codes "--")) (record { workers = 1; turns = None; mode = mode.Search }) }
 {}
 
@@ -71,14 +79,26 @@ pub fn lines_have_faults()
     ensures modes { map line_faults (codes "--do find" ∷ codes "--do=" ∷ codes "--do Search"
         ∷ codes "--do find --number 1" ∷ [])
         ≡ (fault.Mode ∷ []) ∷ (fault.Mode ∷ []) ∷ (fault.Mode ∷ []) ∷ (fault.Mode ∷ []) ∷ [] }
-    ensures mixed { map line_faults (codes "--do make --turns 5" ∷ codes "--number 1" ∷ codes "--number 0" ∷ [])
-        ≡ (fault.Mixed ∷ []) ∷ (fault.Mixed ∷ []) ∷ (fault.Mixed ∷ []) ∷ [] }
-    ensures used { map line_faults (codes "--do search --workers 1" ∷ codes "--do search --turns 1"
-        ∷ codes "--do search --number 1" ∷ codes "--do make --workers 1" ∷ codes "--do make --turns 1"
-        ∷ codes "--do make --number 1" ∷ [])
-        ≡ [] ∷ [] ∷ (fault.Mixed ∷ []) ∷ [] ∷ (fault.Mixed ∷ []) ∷ [] ∷ [] }
+    ensures every { map line_faults (codes "--every 0" ∷ codes "--every 9223372036854775808" ∷ codes "--every="
+        ∷ codes "--every +5" ∷ [])
+        ≡ (fault.Every ∷ []) ∷ (fault.Every ∷ []) ∷ (fault.Every ∷ []) ∷ (fault.Every ∷ []) ∷ [] }
+    ensures mixed { map line_faults (codes "--do make --turns 5" ∷ codes "--number 1" ∷ codes "--number 0"
+        ∷ codes "--every 5 --turns 5" ∷ codes "--do last --every 3" ∷ codes "--do make --every 3" ∷ [])
+        ≡ (fault.Mixed ∷ []) ∷ (fault.Mixed ∷ []) ∷ (fault.Mixed ∷ []) ∷ (fault.Mixed ∷ []) ∷ (fault.Mixed ∷ [])
+        ∷ (fault.Mixed ∷ []) ∷ [] }
+    ensures searched { map line_faults (codes "--do search --workers 1" ∷ codes "--do search --turns 1"
+        ∷ codes "--do search --every 1" ∷ codes "--do search --number 1" ∷ [])
+        ≡ [] ∷ [] ∷ [] ∷ (fault.Mixed ∷ []) ∷ [] }
+    ensures made { map line_faults (codes "--do make --workers 1" ∷ codes "--do make --turns 1"
+        ∷ codes "--do make --every 1" ∷ codes "--do make --number 1" ∷ [])
+        ≡ [] ∷ (fault.Mixed ∷ []) ∷ (fault.Mixed ∷ []) ∷ [] ∷ [] }
+    ensures last { map line_faults (codes "--do last --workers 1" ∷ codes "--do last --turns 1"
+        ∷ codes "--do last --every 1" ∷ codes "--do last --number 1" ∷ codes "--do last" ∷ [])
+        ≡ (fault.Mixed ∷ []) ∷ (fault.Mixed ∷ []) ∷ (fault.Mixed ∷ []) ∷ (fault.Mixed ∷ []) ∷ [] ∷ [] }
     ensures many { map line_faults (codes "--do make --number 4294967296" ∷ codes "--number x"
-        ∷ codes "--do make --turns x" ∷ codes "--do z --number y --turns x --workers w" ∷ [])
+        ∷ codes "--do make --turns x" ∷ codes "--do z --number y --turns x --workers w" ∷ codes "--every 0 --turns 5"
+        ∷ codes "--do last --every 0" ∷ codes "--do find --every 0" ∷ codes "--do z --every 5 --turns 5" ∷ [])
         ≡ (fault.Number ∷ []) ∷ (fault.Number ∷ fault.Mixed ∷ []) ∷ (fault.Turns ∷ fault.Mixed ∷ [])
-        ∷ (fault.Workers ∷ fault.Turns ∷ fault.Number ∷ fault.Mode ∷ []) ∷ [] }
+        ∷ (fault.Workers ∷ fault.Turns ∷ fault.Number ∷ fault.Mode ∷ []) ∷ (fault.Every ∷ fault.Mixed ∷ [])
+        ∷ (fault.Every ∷ fault.Mixed ∷ []) ∷ (fault.Mode ∷ fault.Every ∷ []) ∷ (fault.Mode ∷ fault.Mixed ∷ []) ∷ [] }
 {}

@@ -1,4 +1,23 @@
 //! The command line: what the words after the program's name wish for.
+//!
+//! There are four options: `--do search` or `--do make`, `--workers`, `--turns` and `--number`. No words at all are
+//! a search by one worker to its end. `clap` takes the words apart; the values are read here.
+//!
+//! - [`read_words`]: what the words wish for, or the first that is wrong.
+//! - [`Wish`]: the number of workers, after how many turns to stop, and the mode.
+//! - [`Mode`]: to search the input, or to search the problem that is made of a number.
+//! - [`WordsFault`]: why words are no wish. `NoMemory` is among them.
+//!
+//! ```rust
+//! let mut words = Vec::new(alloc);
+//! words.push(String::from_str(alloc, "--turns=5")?)?;
+//! let wish = Wish {
+//!     workers: 1,
+//!     turns: Some(5),
+//!     mode: Mode::Search,
+//! };
+//! assert!(rt; read_words(alloc, &words) == Ok(wish));
+//! ```
 #![tactic(auto)]
 
 mod command;

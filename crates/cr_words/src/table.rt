@@ -1,7 +1,7 @@
 //! The tables of the command line: its options, and the modes that `--do` names.
 
 ghost use Rattle.std.specs.Prelude.{◌≡◌, map, Some};
-ghost use Rattle.cr_words.specs.Values.{Assigned, is_among, mode_for, number_for};
+ghost use Rattle.cr_words.specs.Values.{Assigned, every_of, is_among, mode_for, number_for, search_with};
 
 use crate::Mode;
 
@@ -26,28 +26,44 @@ pub const CHOICES: &[Choice] = &[
         name: "number",
         default: Some("0"),
     },
+    Choice {
+        name: "every",
+        default: None,
+    },
 ];
 
-/// A mode without the number that it may carry.
+/// What `--do` names, without the numbers that its mode may carry.
 #[derive(Clone, Copy, Drop)]
 pub enum Kind {
     Search,
     Make,
+    Last,
+}
+
+// The mode of a search, with a trail where it is said after how many turns each checkpoint comes.
+fn search_with(every: Option<u64>) -> Mode
+    ensures { result ≡ search_with every }
+{
+    match every {
+        Some(every) => Mode::Trail(every),
+        None => Mode::Search,
+    }
 }
 
 impl Kind {
     /// The mode of this kind.
-    pub fn mode(self, number: u32) -> Mode
-        ensures { (a : Assigned) → number_for a ≡ Some number → mode_for a self ≡ Some result }
+    pub fn mode(self, number: u32, every: Option<u64>) -> Mode
+        ensures { (a : Assigned) → number_for a ≡ Some number → every_of a ≡ Some every → mode_for a self ≡ Some result }
     {
         match self {
-            Kind::Search => Mode::Search,
+            Kind::Search => search_with(every),
             Kind::Make => Mode::Make(number),
+            Kind::Last => Mode::Last,
         }
     }
 }
 
-/// What `--do` may name: the name, which mode that is, and the options that the mode uses.
+/// What `--do` may name: the name, what that is, and the options that it uses.
 #[derive(Clone, Copy, Drop)]
 pub struct Task {
     pub name: &'static str,
@@ -60,12 +76,17 @@ pub const TASKS: &[Task] = &[
     Task {
         name: "search",
         kind: Kind::Search,
-        uses: &["workers", "turns"],
+        uses: &["workers", "turns", "every"],
     },
     Task {
         name: "make",
         kind: Kind::Make,
         uses: &["workers", "number"],
+    },
+    Task {
+        name: "last",
+        kind: Kind::Last,
+        uses: &[],
     },
 ];
 

@@ -42,6 +42,15 @@ const TAKEN: &[Taken] = &[
         Mode::Make(4_294_967_295),
     ),
     Taken("--", 1, None, Mode::Search),
+    Taken("--every 1", 1, None, Mode::Trail(1)),
+    Taken("--every=007 --workers 2", 2, None, Mode::Trail(7)),
+    Taken(
+        "--do search --every 9223372036854775807",
+        1,
+        None,
+        Mode::Trail(9_223_372_036_854_775_807),
+    ),
+    Taken("--do last", 1, None, Mode::Last),
 ];
 
 // A line and its fault.
@@ -85,6 +94,17 @@ const REFUSED: &[Refused] = &[
     ),
     Refused("--do make --turns x", WordsFault::Turns),
     Refused("--do find --number 1", WordsFault::Mode),
+    Refused("--every", WordsFault::Line),
+    Refused("--every 0", WordsFault::Every),
+    Refused("--every 9223372036854775808", WordsFault::Every),
+    Refused("--every 0 --turns 5", WordsFault::Every),
+    Refused("--do last --every 0", WordsFault::Every),
+    Refused("--do find --every 0", WordsFault::Mode),
+    Refused("--every 5 --turns 5", WordsFault::Mixed),
+    Refused("--do last --every 3", WordsFault::Mixed),
+    Refused("--do last --workers 1", WordsFault::Mixed),
+    Refused("--do make --every 3", WordsFault::Mixed),
+    Refused("--every 3 --number 1", WordsFault::Mixed),
 ];
 
 #[test]

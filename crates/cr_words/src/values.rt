@@ -3,8 +3,8 @@
 ghost use Rattle.std.specs.Prelude.{◌≡◌, MatchResult, map, option_map};
 ghost use Rattle.std.specs.List.{list_any};
 ghost use Rattle.cr_words.specs.Commands.{values_of};
-ghost use Rattle.cr_words.specs.Values.{IsWishOf, faults_of, workers_of, turns_of, number_for};
-ghost use Rattle.cr_words.specs.Values.{task_of, named, is_beyond, exceeds};
+ghost use Rattle.cr_words.specs.Values.{IsWishOf, faults_of, workers_of, turns_of, number_for, every_of};
+ghost use Rattle.cr_words.specs.Values.{task_of, named, is_beyond, exceeds, has_both, is_mixed};
 ghost use Rattle.cr_words.specs.Tables.{choice_of, task_in};
 ghost use Rattle.cr_words.specs.Readings.{IsFirst};
 
@@ -82,6 +82,16 @@ impl<'m, 'a> Values<'m, 'a> {
         small_between(self.value("number")?, 0, u32::MAX)
     }
 
+    // After how many turns each checkpoint comes, if that was given.
+    fn every(&self) -> Option<Option<u64>>
+        ensures { result ≡ every_of (values_of self.now.matches.now) }
+    {
+        match self.value("every") {
+            Some(text) => Some(Some(number_between(text, 1, 9_223_372_036_854_775_807)?)),
+            None => Some(None),
+        }
+    }
+
     // What is to be done.
     fn task(&self) -> Option<&'static Task>
         ensures { option_map (λ task. task_in task.now) result ≡ task_of (values_of self.now.matches.now) }
@@ -115,6 +125,20 @@ impl<'m, 'a> Values<'m, 'a> {
         self.is_any_beyond(task, CHOICES)
     }
 
+    // Whether both options are given that say when a search writes a checkpoint.
+    fn has_both(&self) -> bool
+        ensures { result ≡ has_both (values_of self.now.matches.now) }
+    {
+        self.is_given("turns") && self.is_given("every")
+    }
+
+    // Whether options are given that do not go together.
+    fn is_mixed(&self, task: &Task) -> bool
+        ensures { result ≡ is_mixed (values_of self.now.matches.now) (task_in task.now) }
+    {
+        self.exceeds(task) || self.has_both()
+    }
+
     /// The wish that these values are, and else the first that is wrong with them.
     pub fn wish(&self) -> Result<Wish, WordsFault>
         ensures { MatchResult result (IsWishOf (values_of self.now.matches.now))
@@ -132,13 +156,16 @@ impl<'m, 'a> Values<'m, 'a> {
         let Some(task) = self.task() else {
             return Err(WordsFault::Mode);
         };
-        if self.exceeds(task) {
+        let Some(every) = self.every() else {
+            return Err(WordsFault::Every);
+        };
+        if self.is_mixed(task) {
             return Err(WordsFault::Mixed);
         }
         Ok(Wish {
             workers,
             turns,
-            mode: task.kind.mode(number),
+            mode: task.kind.mode(number, every),
         })
     }
 }

@@ -7,6 +7,11 @@ pub enum Mode {
     Search,
     /// Read nothing, and search the problem that is made of this number.
     Make(u32),
+    /// Read an input from the source and search it, and write a checkpoint at the start, after each so many turns, 1 to
+    /// 2^63 - 1, and at the end.
+    Trail(u64),
+    /// Read what such a search wrote, and write its last whole checkpoint.
+    Last,
 }
 
 /// What the words wish for.

@@ -1,4 +1,4 @@
-use Rattle.cr_top.proofs.Going.{some_nodes}
+use Rattle.cr_trail.proofs.Going.{some_nodes}
 use Rattle.cr_top.proofs.OneAnswer.{one_size, is_sound, no_problem_fault, no_check_fault, one_problem_fault, one_check_fault}
 use Rattle.cr_top.proofs.answers.inputs_have_one_answer.Goals as goal
 

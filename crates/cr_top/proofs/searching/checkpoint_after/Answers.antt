@@ -4,8 +4,8 @@ use Rattle.cr_store.specs.Written.{lists}
 use Rattle.cr_top.proofs.Stopping.{stop_text}
 use Rattle.cr_top.proofs.searching.checkpoint_after.Goals as goal
 
-pub left_in_order-requires : goal.left_in_order-requires
-left_in_order-requires c = c.requires.came.way.nodes.kept
+pub remaining_in_order-requires : goal.remaining_in_order-requires
+remaining_in_order-requires c = c.requires.came.way.nodes.kept
 
 pub checkpoint_of-requires-clause-goes_on : goal.checkpoint_of-requires-clause-goes_on
 checkpoint_of-requires-clause-goes_on c =

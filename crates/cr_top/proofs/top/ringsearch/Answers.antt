@@ -1,7 +1,9 @@
 use Rattle.std.proofs.Common.{Some, refl}
 use Rattle.cr_words.specs.Commands.{texts_of}
-use Rattle.cr_top.proofs.Wishing.{refused, as_search, as_make}
+use Rattle.cr_top.proofs.Wishing.{refused, as_search, as_make, as_trail, as_last}
 use Rattle.cr_top.proofs.Completeness.{made, ends_finished, ends_stopped, ends_refused}
+use Rattle.cr_top.proofs.TrailAnswers.{trail_finished, trail_refused}
+use Rattle.cr_top.proofs.LastAnswers.{last_finished, last_refused}
 use Rattle.cr_top.proofs.top.ringsearch.Goals as goal
 
 pub returns-clause-refuses_words : goal.returns-clause-refuses_words
@@ -37,3 +39,33 @@ returns-clause-refuses g c = λ turns asks input told due is reads.
     (texts_of c.args.words.now) c.ended-status.result turns asks c.ended-status.ensures.ends)
     (λ taken took. g.met.S.Source.shows _ _ taken took) input
     (c.inputs_have_one_answer.ensures input) told reads due is
+
+pub returns-clause-trails : goal.returns-clause-trails
+returns-clause-trails g c = λ every asks input bytes p found nodes told short is reads writes.
+    trail_finished _ _ every c.ended-status.result
+    (as_trail _ _ c.words_read_as_one_wish.ensures c.words_are_accepted_or_have_a_fault.ensures.apart
+    (texts_of c.args.words.now) c.ended-status.result every asks c.ended-status.ensures.ends)
+    (λ taken took. g.met.S.Source.shows _ _ taken took) input
+    (c.inputs_have_one_answer.ensures input) told reads bytes p found nodes short is writes
+
+pub returns-clause-refuses_trail : goal.returns-clause-refuses_trail
+returns-clause-refuses_trail g c = λ every asks input told due is reads.
+    trail_refused _ _ every c.ended-status.result
+    (as_trail _ _ c.words_read_as_one_wish.ensures c.words_are_accepted_or_have_a_fault.ensures.apart
+    (texts_of c.args.words.now) c.ended-status.result every asks c.ended-status.ensures.ends)
+    (λ taken took. g.met.S.Source.shows _ _ taken took) input
+    (c.inputs_have_one_answer.ensures input) told reads due is
+
+pub returns-clause-lasts : goal.returns-clause-lasts
+returns-clause-lasts g c = λ asks input last told short is reads writes.
+    last_finished _ _ c.ended-status.result
+    (as_last _ _ c.words_read_as_one_wish.ensures c.words_are_accepted_or_have_a_fault.ensures.apart
+    (texts_of c.args.words.now) c.ended-status.result asks c.ended-status.ensures.ends)
+    (λ taken took. g.met.S.Source.shows _ _ taken took) c.each_text_has_one_last_block.ensures input told reads last short is writes
+
+pub returns-clause-refuses_last : goal.returns-clause-refuses_last
+returns-clause-refuses_last g c = λ asks input told due is reads.
+    last_refused _ _ c.ended-status.result
+    (as_last _ _ c.words_read_as_one_wish.ensures c.words_are_accepted_or_have_a_fault.ensures.apart
+    (texts_of c.args.words.now) c.ended-status.result asks c.ended-status.ensures.ends)
+    (λ taken took. g.met.S.Source.shows _ _ taken took) c.each_text_has_one_last_block.ensures input told reads due is

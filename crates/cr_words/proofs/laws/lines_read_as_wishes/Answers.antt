@@ -16,5 +16,8 @@ returns c = record {
   no_turns = record { has_workers = refl; has_turns = refl; has_mode = refl; right = refl };
   made = record { has_workers = refl; has_turns = refl; has_mode = refl; right = refl };
   most_made = record { has_workers = refl; has_turns = refl; has_mode = refl; right = refl };
+  trail = record { has_workers = refl; has_turns = refl; has_mode = refl; right = refl };
+  most_every = record { has_workers = refl; has_turns = refl; has_mode = refl; right = refl };
+  last = record { has_workers = refl; has_turns = refl; has_mode = refl; right = refl };
   lone = record { has_workers = refl; has_turns = refl; has_mode = refl; right = refl };
 }
