@@ -1,0 +1,13 @@
+pub mod Dealing
+pub mod Apart
+pub mod Shards
+pub mod Cutting
+pub mod Meeting
+pub mod BodyReads
+pub mod Spreading
+pub mod Overlapping
+pub mod Earliest
+pub mod JoinedFacts
+pub mod JoinChecks
+pub mod RoundTrip
+pub mod OneJoin

@@ -1,0 +1,4 @@
+pub mod Deals
+pub mod Joins
+pub mod JoinFaults
+pub mod Reads
