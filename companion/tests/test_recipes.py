@@ -21,7 +21,6 @@ from companion.tests.running import PROGRAM, TOP, compose_in_shell, need_program
 COMPOSING = TOP / "docs/composing.md"
 RUNNING = TOP / "docs/running.md"
 FORMATS = TOP / "docs/formats.md"
-LONG = TOP / "bench/major-640.toml"
 
 # Recipes whose books plain_search finds in a few seconds.
 CHEAP = ("first.toml", "grandsire.toml", "erin.toml", "kent.toml", "half.toml", "short.toml", "spliced.toml")
@@ -158,8 +157,12 @@ class Running(unittest.TestCase):
         self.assertEqual((self.folder / "book.txt").read_text().splitlines(), search(example)[1])
 
     def test_a_signal_ends_it_and_nothing_is_written(self):
+        # It would take days.
+        endless = re.sub(r"min = \d+\nmax = \d+", "min = 5000\nmax = 5100", (TOP / "bench/major-640.toml").read_text())
+        self.assertIn("max = 5100", endless)
+        (self.folder / "endless.toml").write_text(endless)
         for name, status in ((signal.SIGINT, -signal.SIGINT), (signal.SIGTERM, -signal.SIGTERM)):
-            with LONG.open("rb") as problem, subprocess.Popen(
+            with (self.folder / "endless.toml").open("rb") as problem, subprocess.Popen(
                 [PROGRAM], stdin=problem, stdout=subprocess.PIPE, stderr=subprocess.PIPE
             ) as running:
                 time.sleep(0.3)
