@@ -163,12 +163,17 @@ class Running(unittest.TestCase):
         (self.folder / "endless.toml").write_text(endless)
         for name, status in ((signal.SIGINT, -signal.SIGINT), (signal.SIGTERM, -signal.SIGTERM)):
             with (self.folder / "endless.toml").open("rb") as problem, subprocess.Popen(
-                [PROGRAM], stdin=problem, stdout=subprocess.PIPE, stderr=subprocess.PIPE
+                # A shell's background job ignores SIGINT, and so would what it starts.
+                [PROGRAM], stdin=problem, stdout=subprocess.PIPE, stderr=subprocess.PIPE,
+                preexec_fn=lambda: signal.signal(name, signal.SIG_DFL),
             ) as running:
-                time.sleep(0.3)
-                self.assertIsNone(running.poll())
-                running.send_signal(name)
-                output, notes = running.communicate(timeout=60)
+                try:
+                    time.sleep(0.3)
+                    self.assertIsNone(running.poll())
+                    running.send_signal(name)
+                    output, notes = running.communicate(timeout=60)
+                finally:
+                    running.kill()
             self.assertEqual((running.returncode, output, notes), (status, b"", b""))
 
     def test_want_of_memory_is_a_status(self):
