@@ -69,7 +69,7 @@ const CUTS: &[Cut] = &[
     (BOTH, 2, FIRST, SECOND, ""),
     (BOTH, 3, FIRST, SECOND, EMPTY),
     (
-        "found 1\n20 bb\njobs 2\njob 2\n0 bp\n0 pb\njob 1\n0 pp\nend\n",
+        "found 1\n20 bb\njobs 2\njob 2\n0 bp\n0 pb\njob 1\n1 p\nend\n",
         2,
         "found 1\n20 bb\njobs 1\njob 2\n0 bp\n0 pp\nend\n",
         "found 0\njobs 1\njob 1\n0 pb\nend\n",
