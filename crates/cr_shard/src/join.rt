@@ -22,8 +22,8 @@ use std::alloc::Global;
 /// all found, in the book's order, and the jobs of all, body by body.
 ///
 /// A text is joined exactly where its bodies belong together, and each fault comes exactly where it is that of the first
-/// check that does not hold, but for `NoMemory`, which comes where no memory is left and says nothing of the text. That no two bodies overlap takes n log n comparisons for n found
-/// touches and nodes in all.
+/// check that does not hold, but for `NoMemory`, which comes where no memory is left and says nothing of the text. To see
+/// that no two bodies overlap takes n log n comparisons for n found touches and nodes in all.
 pub fn join_blocks(alloc: Global, text: &[u8]) -> Result<Vec<u8>, JoinFault>
     ensures joined { IfOk result (λ joined. IsJoin text.now joined.items) }
     ensures fault { IfErr result (λ why. why ≢ fault.NoMemory → FirstJoinFault text.now why) }

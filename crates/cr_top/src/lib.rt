@@ -1,14 +1,16 @@
-//! The top call: from the words of the command line and the bytes of the input to the bytes of the book or of a
-//! checkpoint.
+//! The top call: from the words of the command line and the bytes of the input to the bytes of the book, of a
+//! checkpoint or of a trail of checkpoints.
 //!
 //! [`ringsearch`] does all that the program does, over any source and sinks. It reads a problem file or a
 //! checkpoint, searches it by one worker or by several, and writes the book; or, where it was to stop after so many
-//! turns and something is left, a checkpoint to go on from. The words may also ask for the summary of a problem
-//! that is made of a number. Its contract is the theorem that docs/theorem.md tells. Nothing is written before the
-//! whole text is made.
+//! turns and something is left, a checkpoint to go on from. The words may also ask for a trail, a checkpoint after
+//! each so many turns; for the last whole checkpoint of what is left of one; or for the summary of a problem that is
+//! made of a number. Its contract is the theorem that docs/theorem.md tells. Nothing is written before the whole text
+//! is made, but a trail is written checkpoint by checkpoint.
 //!
 //! - [`ringsearch`]: the whole program but its streams. Each status but `Finished` writes its line to the notes.
-//! - [`search_alone`]: the search by one worker, who waits for nobody; it is proved to return.
+//! - [`search_alone`], [`trail_alone`]: the search and the trail by one worker, who waits for nobody; they are proved to
+//!   return.
 //! - [`Status`], [`Status::code`]: how the call ended, and the number that the program ends with.
 //! - [`write_note`]: the line of a status. It takes no memory.
 //! - [`Gate`], [`OpenGate`]: what each exploration enters first. A program gives [`OpenGate`]; a test sees there

@@ -33,8 +33,9 @@ use std::thread::Threads;
 /// that are allowed, a checkpoint to the sink, or a trail of checkpoints; or writes the last whole checkpoint of what is
 /// left of a trail; or makes a problem of a number and writes its summary.
 ///
-/// Nothing is written before the whole text is made, but that of a trail is written block by block. Each status but `Finished` writes its line to the notes; a fault of
-/// theirs ends the line and changes no status. Each exploration of an input's search enters the gate first.
+/// Nothing is written before the whole text is made, but that of a trail is written block by block. Each status but
+/// `Finished` writes its line to the notes; a fault of theirs ends the line and changes no status. Each exploration of an
+/// input's search enters the gate first.
 pub fn ringsearch<
     R: AllocGlobal + Threads + Wait + Sync,
     S: Source,
