@@ -5,7 +5,7 @@ use Rattle.cr_model.specs.Problems.{ProblemParts}
 use Rattle.cr_model.specs.Callings.{HasSteps, method_of, mark_of, letter_of}
 use Rattle.cr_model.specs.Books.{lead_text, calling_text}
 use Rattle.cr_model.specs.Sound.{IsSound}
-use Rattle.cr_audit.proofs.StepsDiffer.{one_step, one_method, known_method}
+use Rattle.cr_model.proofs.StepsDiffer.{one_step, one_method, known_method}
 use Rattle.cr_audit.proofs.SameTexts.{same_from_text}
 use Rattle.cr_audit.proofs.Walking.{width, wide, some_width}
 

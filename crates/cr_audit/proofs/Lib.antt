@@ -1,13 +1,9 @@
-pub mod Bytes
 pub mod Cutting
-pub mod Lacking
 pub mod LeadTexts
 pub mod Minimus
-pub mod Numerals
 pub mod OneFault
 pub mod OneLine
 pub mod Proving
 pub mod SameTexts
-pub mod StepsDiffer
 pub mod RawLines
 pub mod Walking

@@ -10,18 +10,19 @@ use Rattle.cr_model.specs.Callings.{HasSteps, mark_of, letter_of}
 use Rattle.cr_model.specs.Books.{lead_text, calling_text}
 use Rattle.cr_model.specs.Checkpoints.{steps_text}
 use Rattle.cr_model.specs.Sound.{IsSound, sound_letters, sound_leads}
+use Rattle.cr_model.specs.Texts.{IsNumber, Lacks}
+use Rattle.cr_model.proofs.Bytes.{cut}
+use Rattle.cr_model.proofs.Lacking.{lacks_joined, number_lacks}
+use Rattle.cr_model.proofs.StepsDiffer.{known_method}
 use Rattle.cr_audit.specs.declared.verdict.Item.{Item}
 use Rattle.cr_audit.specs.declared.verdict.Item.TheVariants as item
 use Rattle.cr_audit.specs.declared.verdict.Verdict.{Verdict}
 use Rattle.cr_audit.specs.declared.verdict.Verdict.TheVariants as verdict
-use Rattle.cr_audit.specs.Texts.{IsNumber, Lacks, two}
+use Rattle.cr_audit.specs.Texts.{two}
 use Rattle.cr_audit.specs.Logs.{LineParts, item_text, verdict_text, line_text, ItemIsSmall, IsSmall, IsLine}
 use Rattle.cr_audit.specs.Reads.{raw_text, IsRaw}
 use Rattle.cr_audit.specs.Audits.{Begins}
-use Rattle.cr_audit.proofs.Bytes.{cut}
-use Rattle.cr_audit.proofs.Lacking.{lacks_joined, number_lacks}
 use Rattle.cr_audit.proofs.LeadTexts.{one_calling}
-use Rattle.cr_audit.proofs.StepsDiffer.{known_method}
 use Rattle.cr_audit.proofs.RawLines.{cut_two, two_is, raw_lacks}
 
 number_one : (m n : ℕ) → IsNumber m → IsNumber n → decimal m ≡ decimal n → m ≡ n

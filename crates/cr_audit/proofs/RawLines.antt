@@ -5,15 +5,16 @@ use Rattle.std.specs.Prelude.{Option, Some, None, IfNone}
 use Rattle.std.proofs.lemmas.Bool.{or_parts}
 use Rattle.std.proofs.lemmas.List.{append_cancel_left}
 use Rattle.std.proofs.lemmas.List.Folds.{list_any-append}
+use Rattle.cr_model.specs.Texts.{IsNumber, Lacks, NoneTells, named}
+use Rattle.cr_model.proofs.Bytes.{cut, uncut}
+use Rattle.cr_model.proofs.Lacking.{lacks_joined, number_lacks}
 use Rattle.cr_audit.specs.declared.verdict.Item.{Item}
 use Rattle.cr_audit.specs.declared.verdict.Item.TheVariants as item
 use Rattle.cr_audit.specs.declared.verdict.Verdict.{Verdict}
 use Rattle.cr_audit.specs.declared.verdict.Verdict.TheVariants as verdict
-use Rattle.cr_audit.specs.Texts.{IsNumber, Lacks, NoneTells, named, two, two_named, NeverTwo}
+use Rattle.cr_audit.specs.Texts.{two, two_named, NeverTwo}
 use Rattle.cr_audit.specs.Logs.{item_text, verdict_text, ItemIsSmall, IsSmall}
 use Rattle.cr_audit.specs.Reads.{item_after, raw_text, IsRaw}
-use Rattle.cr_audit.proofs.Bytes.{cut, uncut}
-use Rattle.cr_audit.proofs.Lacking.{lacks_joined, number_lacks}
 
 -- two numbers, cut at the space
 pub cut_two : (text first second : List ℕ) (m n : ℕ) → Lacks 32 first → text ≡ first ++ 32 ∷ second → IsNumber m → text ≡ two m n

@@ -8,11 +8,11 @@ use Rattle.cr_model.specs.Books.{book_order}
 use Rattle.cr_model.specs.Checkpoints.{steps_text}
 use Rattle.cr_model.specs.Sizes.{children}
 use Rattle.cr_model.specs.OneTurn.{touch_of}
+use Rattle.cr_model.specs.Texts.{IsNumber}
 use Rattle.cr_audit.specs.declared.verdict.Item.{Item}
 use Rattle.cr_audit.specs.declared.verdict.Item.TheVariants as item
 use Rattle.cr_audit.specs.declared.verdict.Verdict.{Verdict}
 use Rattle.cr_audit.specs.declared.verdict.Verdict.TheVariants as verdict
-use Rattle.cr_audit.specs.Texts.{IsNumber}
 use Rattle.cr_audit.specs.Verdicts.{HoldsVerdict}
 
 -- a line: a node, and the verdict on it

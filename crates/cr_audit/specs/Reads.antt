@@ -1,8 +1,8 @@
 -- What reading a line tells, before its node is read.
 use Rattle.std.specs.Prelude.{ℕ, List, ◌∷◌, ◌++◌}
+use Rattle.cr_model.specs.Texts.{Lacks}
 use Rattle.cr_audit.specs.declared.verdict.Item.{Item}
 use Rattle.cr_audit.specs.declared.verdict.Verdict.{Verdict}
-use Rattle.cr_audit.specs.Texts.{Lacks}
 use Rattle.cr_audit.specs.Logs.{item_text, verdict_text, IsSmall}
 
 -- an item after a word

@@ -14,7 +14,6 @@ pub mod Reading
 pub mod Rooms
 pub mod Keeping
 pub mod Ending
-pub mod Hunts
 pub mod Recalled
 pub mod Stale
 pub mod Appending

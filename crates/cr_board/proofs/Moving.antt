@@ -7,6 +7,8 @@ use Rattle.std.proofs.lemmas.List.{length-set, get_or-set_same, get_or-set_other
 use Rattle.std.proofs.lemmas.List.Sums.{sum_by-append, sum_by-cons}
 use Rattle.cr_model.specs.Nodes.{is_prefix, IsValid, Independent, Splits}
 use Rattle.cr_model.specs.Sizes.{most_rows, size_of_all}
+use Rattle.cr_model.proofs.Counting.{none_count, none_passes}
+use Rattle.cr_model.proofs.Independence.{one_begins_each}
 use Rattle.cr_node.specs.Work.{Work, IsJob}
 use Rattle.cr_board.specs.Jobs.{JobParts, numbered, opening_nodes}
 use Rattle.cr_board.specs.Boards.{BoardParts, lane_at, held_at, jobs_in, nodes_in, jobs_of, nodes_of}
@@ -16,7 +18,7 @@ use Rattle.cr_board.specs.Moves.{taken_at, put_back, handed_in, halves}
 use Rattle.cr_board.specs.declared.held.Held.{Held}
 use Rattle.cr_board.specs.declared.place.Place.{Place}
 use Rattle.cr_board.proofs.Sums.{HaveSame, same_nodes, sum_joined, jobs_sum, lane_put, lane_left, held_more, held_less}
-use Rattle.cr_board.proofs.Apart.{none_count, none_passes, same_all, from_counts, one_begins_each}
+use Rattle.cr_board.proofs.Apart.{same_all, from_counts}
 use Rattle.cr_board.proofs.Parting.{AmongOthers, moved, handed_over}
 
 -- a job has no node

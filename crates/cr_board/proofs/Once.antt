@@ -16,11 +16,12 @@ use Rattle.cr_model.specs.Touches.{Kept}
 use Rattle.cr_model.specs.Nodes.{part_of, nodes_above, times_found, Independent, Covers}
 use Rattle.cr_model.specs.Books.{book_order}
 use Rattle.cr_model.specs.Checkpoints.{CanGoOn, nodes_of_jobs}
+use Rattle.cr_model.proofs.Counting.{few_count, passing}
+use Rattle.cr_model.proofs.Independence.{one_begins_each, none_above_found}
 use Rattle.cr_board.specs.Jobs.{JobParts, OpeningParts, opening_nodes}
 use Rattle.cr_board.specs.Boards.{BoardParts, jobs_of, board_jobs, nodes_in, nodes_of}
 use Rattle.cr_board.specs.Partitions.{IsPartition, EachOnce, IsKept}
 use Rattle.cr_board.specs.Chains.{IsOpenedWith, FollowOn, found_by, spent_by, left_by}
-use Rattle.cr_board.proofs.Apart.{few_count, some_passes, one_begins_each, none_above_found}
 use Rattle.cr_board.proofs.Covering.{AreCounted, covers_same}
 use Rattle.cr_board.proofs.Parting.{begun, onward}
 
@@ -48,7 +49,7 @@ module _ (p : ProblemParts) (found nodes : List (List ℕ)) (ascending : IsStric
   -- a touch that was found has no node above it
   not_both : 1 ≤ times_found found calling → nodes_above p nodes calling ≡ 0
   not_both some =
-      let (touch, (j, inside, at), same) = some_passes (bytes_eq calling) found some in
+      let (touch, (j, inside, at), same) = passing (bytes_eq calling) found some in
       let is : get_or found j [] ≡ calling = get_or_default found j [] touch inside ∙ at ∙ sym ((bytes_eq-Decides calling touch).0 same) in
       sym (ap (nodes_above p nodes) is) ∙ none_above_found p found nodes apart j inside
 
@@ -77,7 +78,7 @@ parts_once counted p found nodes now left spent ascending apart part = record { 
     unfound : (calling : List ℕ) → (Covers p found nodes calling → ⊥) → times_found now calling ≡ 0
     unfound calling not = elim (cases_lt 0 (times_found now calling)) [
       | inl some ↦
-          let (touch, (j, inside, at), same) = some_passes (bytes_eq calling) now (omega arith) in
+          let (touch, (j, inside, at), same) = passing (bytes_eq calling) now (omega arith) in
           let kept : Kept p calling = subst (Kept p) (at ∙ sym ((bytes_eq-Decides calling touch).0 same)) (part.kept j touch inside) in
           let covers : Covers p now left calling = (counted p now left calling).1 (kept, omega arith) in
           absurd (not ((covers_same counted p found nodes now left spent part calling).0 covers))

@@ -10,7 +10,9 @@ use Rattle.cr_model.specs.Nodes.{is_above, IsValid, times_found, Independent, Sp
 use Rattle.cr_model.specs.Sizes.{most_rows, size, size_of_all}
 use Rattle.cr_board.specs.Partitions.{IsPartition}
 use Rattle.cr_board.proofs.Sums.{HaveSame}
-use Rattle.cr_board.proofs.Apart.{same_all, same_independent, none_passes, none_above_found}
+use Rattle.cr_model.proofs.Counting.{none_passes}
+use Rattle.cr_model.proofs.Independence.{none_above_found}
+use Rattle.cr_board.proofs.Apart.{same_all, same_independent}
 
 -- what a law of splits says
 abbrev pub AmongOthers : Type 0

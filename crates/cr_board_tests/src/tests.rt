@@ -1,3 +1,3 @@
-mod hunter;
+mod boards;
 mod node_lists;
 mod scripts;

@@ -5,8 +5,8 @@ use Rattle.cr_model.specs.Problems.{ProblemParts}
 use Rattle.cr_model.specs.Callings.{HasSteps, method_of, mark_of, letter_of}
 use Rattle.cr_model.specs.Books.{lead_text, calling_text}
 use Rattle.cr_model.specs.Sound.{IsSound}
+use Rattle.cr_model.proofs.StepsDiffer.{one_step, one_method, known_method, some_step, led}
 use Rattle.cr_book.specs.Leads.{lead_width, IsStepWith, LeadIsWrong, LeadCanBegin}
-use Rattle.cr_book.proofs.StepsDiffer.{one_step, one_method, known_method, some_step, led}
 use Rattle.cr_book.proofs.PrefixCodes.{same_from_text}
 
 module _ (p : ProblemParts) where

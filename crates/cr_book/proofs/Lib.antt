@@ -1,4 +1,3 @@
-pub mod StepsDiffer
 pub mod PrefixCodes
 pub mod LeadTexts
 pub mod WrongPlaces

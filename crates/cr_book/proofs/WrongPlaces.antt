@@ -10,12 +10,12 @@ use Rattle.cr_model.specs.Callings.{HasSteps}
 use Rattle.cr_model.specs.Books.{lead_text, calling_text}
 use Rattle.cr_model.specs.Limits.{most_leads}
 use Rattle.cr_model.specs.Sound.{IsSound}
+use Rattle.cr_model.proofs.StepsDiffer.{some_step}
 use Rattle.cr_book.specs.declared.fault.CallingFault.{CallingFault}
 use Rattle.cr_book.specs.declared.fault.CallingFault.TheVariants as fault
 use Rattle.cr_book.specs.Readings.{IsCallingText, CanBeginCalling, IsFirstWrongByte}
 use Rattle.cr_book.specs.Reads.{Reads}
 use Rattle.cr_book.specs.Leads.{lead_width, LeadIsWrong, IsReadTo}
-use Rattle.cr_book.proofs.StepsDiffer.{some_step}
 use Rattle.cr_book.proofs.LeadTexts.{wide, some_width, one_lead, one_calling}
 use Rattle.cr_book.proofs.PrefixCodes.{after, After, none_from_text}
 

@@ -8,6 +8,7 @@
 //! - [`sort_found`]: found touches in the order of the book.
 //! - [`book_text`], [`calling_text`]: the text of a book, and of one calling.
 //! - [`book_pieces`]: the text of the book of touches in any order, sorted and written by several threads.
+//! - [`line_pieces`], [`write_lines`]: the same without the book's last line, and the lines of touches as they stand.
 //! - [`summary_text`]: the numbers of touches by length.
 //! - [`read_calling`]: the calling whose text this is, or the first byte that cannot be ([`CallingFault`]).
 //!
@@ -41,7 +42,7 @@ mod texts;
 
 pub use fault::CallingFault;
 pub use order::sort_found;
-pub use pieces::{BookPieces, book_pieces};
+pub use pieces::{BookPieces, book_pieces, line_pieces};
 pub use reading::read_calling;
 pub use summary::summary_text;
-pub use texts::{book_text, calling_text};
+pub use texts::{book_text, calling_text, write_lines};

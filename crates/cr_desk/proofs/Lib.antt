@@ -1,4 +1,3 @@
-pub mod Hunts
 pub mod Ones
 pub mod Seats
 pub mod Strangers

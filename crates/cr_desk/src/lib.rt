@@ -35,6 +35,3 @@ mod seat;
 
 pub use desk::Desk;
 pub use seat::Seat;
-
-#[cfg(test)]
-mod tests;

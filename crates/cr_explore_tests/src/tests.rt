@@ -14,7 +14,8 @@ use cr_node::laws::work_goes_on;
 use cr_node::{Explorer, Node};
 use cr_path::NumberTable;
 use cr_reach::ReachTable;
-use cr_row::{Change, NoMemory, Stage};
+use cr_row::{NoMemory, Stage};
+use cr_samples::changes_of;
 use std::alloc::Global;
 use std::test::*;
 use std::thread::Threads;
@@ -98,21 +99,6 @@ const FALSE_CALL: Draft = Draft {
     ],
     ..MINIMUS
 };
-
-fn changes_of(alloc: Global, stage: Stage, text: &[u8]) -> Result<Vec<Change>, Fail> {
-    let mut changes = Vec::new(alloc);
-    for group in text.split(|byte| *byte == b'.') {
-        let mut places = Vec::new(alloc);
-        for byte in group {
-            if *byte != b'x' {
-                places.push(byte.saturating_sub(b'0'))?;
-            }
-        }
-        let change = Change::from_places(stage, &places).ok();
-        changes.push(change.ok_or("the places are those of a change")?)?;
-    }
-    Ok(changes)
-}
 
 fn patterns_of(alloc: Global, cells: &[Cell]) -> Result<Vec<Pattern>, Fail> {
     let mut patterns = Vec::new(alloc);

@@ -1,4 +1,14 @@
 //! Which leads share a row, by the rows between their heads.
+//!
+//! Whether a lead from one head and a lead from another have a row in common depends on their steps and on the quotient
+//! of the heads alone. The table has these quotients for each pair of steps.
+//!
+//! - [`FalseTable::new`]: the table of some leads, made by many threads, or the number of its rows where they are more
+//!   than a limit ([`Built`]).
+//! - [`FalseTable::clash`]: whether two leads share a row, by the row between their heads. It takes no memory.
+//! - [`FalseTable::self_false`]: whether a lead has a row twice.
+//!
+//! The functions of [`laws`] do nothing; the contract of each is what is proved of quotients.
 #![tactic(auto)]
 
 mod built;
@@ -10,6 +20,3 @@ mod twice;
 
 pub use built::Built;
 pub use table::FalseTable;
-
-#[cfg(test)]
-mod tests;

@@ -1,4 +1,15 @@
 //! The outside: sources of bytes and sinks for them, each with a count of its faults.
+//!
+//! What reads or writes takes a [`Source`] or a [`Sink`], so its contract speaks of any stream, and its tests use lists
+//! in memory that fail where they are told to.
+//!
+//! - [`read_all`]: all bytes of a source, at most so many, or why not ([`ReadEnd`]). It asks again until the source is
+//!   at its end.
+//! - [`write_whole`], [`write_pieces`]: write a text, or texts one after another, to the end or to the first fault
+//!   ([`WriteFault`]).
+//! - [`StdSource`], [`StdSink`]: the streams of the process.
+//! - [`MemSource`], [`MemSink`]: streams in memory, which fail at the calls that are listed.
+//! - [`SureSource`], [`SureSink`]: streams in memory that never fail.
 #![tactic(auto)]
 
 ghost use Rattle.std.specs.Prelude.{◌≡◌, ℕ, ◌<◌, List, [], ◌++◌, Option, length, IfOk};

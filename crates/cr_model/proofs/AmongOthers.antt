@@ -1,27 +1,13 @@
 -- A split of some nodes among others.
-use Rattle.std.proofs.Common.{◌≡◌, ◌≢◌, ℕ, ◌+◌, ◌-◌, ◌<◌, ◌⊎◌, true, false, cond, nat_eq, List, [], ◌∷◌, ◌++◌, length, get_or, All, Any, Contains, inl, inr, refl, sym, ap, ap₂, ◌∙◌, arith, length-append, eqb-true, eq-eqb}
-use Rattle.std.proofs.lemmas.Bool.{cases_lt, true≢false, false_from_ne_true, false≢true, and_parts, and_from}
+use Rattle.std.proofs.Common.{◌≡◌, ◌≢◌, ℕ, ◌+◌, ◌-◌, ◌<◌, true, false, cond, List, [], ◌++◌, length, get_or, All, Any, Contains, inl, inr, refl, sym, ap, ap₂, ◌∙◌, arith, length-append}
+use Rattle.std.proofs.lemmas.Bool.{cases_lt, true≢false, false_from_ne_true}
 use Rattle.std.proofs.lemmas.List.{get_or_default, get_or_append_left, get_or-append_right}
 use Rattle.std.proofs.lemmas.List.Elements.{All-append}
 use Rattle.std.proofs.lemmas.List.Sums.{sum_by-append}
 use Rattle.cr_model.specs.Problems.{ProblemParts}
 use Rattle.cr_model.specs.Nodes.{part_of, is_prefix, is_above, IsValid, nodes_above, Independent, Splits}
 use Rattle.cr_model.proofs.Counting.{passing}
-use Rattle.cr_model.proofs.Prefixes.{begins_itself, begins_onward}
-
--- of two lists that begin a third one begins the other
-one_begins : (node other steps : List ℕ) → is_prefix node steps ≡ true → is_prefix other steps ≡ true → (is_prefix node other ≡ true) ⊎ (is_prefix other node ≡ true)
-one_begins [] other steps one two = inl refl
-one_begins (x ∷ node) [] steps one two = inr refl
-one_begins (x ∷ node) (y ∷ other) [] one two = absurd (false≢true one)
-one_begins (x ∷ node) (y ∷ other) (z ∷ steps) one two =
-    let first = and_parts (nat_eq x z) (is_prefix node steps) one in
-    let second = and_parts (nat_eq y z) (is_prefix other steps) two in
-    let same : x ≡ y = eqb-true x z first.0 ∙ sym (eqb-true y z second.0) in
-    elim (one_begins node other steps first.1 second.1) [
-      | inl h ↦ inl (and_from (nat_eq x y) (is_prefix node other) (eq-eqb x y same) h)
-      | inr h ↦ inr (and_from (nat_eq y x) (is_prefix other node) (eq-eqb y x (sym same)) h)
-    ]
+use Rattle.cr_model.proofs.Prefixes.{begins_itself, begins_onward, one_begins}
 
 module _ (p : ProblemParts) (job found rest others : List (List ℕ)) (one : Splits p job found rest) (valid : All (IsValid p) others) (apart : Independent p [] (others ++ job)) where
   -- one of the others and one of the job don't begin each other

@@ -1,6 +1,8 @@
--- A count is at least one where some element passes.
-use Rattle.std.proofs.Common.{◌≡◌, ℕ, zero, ◌+◌, ◌≤◌, ◌↔◌, Bool, true, false, cond, List, [], ◌∷◌, Contains, count_by, bytes_eq, inl, inr, refl, sym, ap, ◌∙◌, subst, arith}
-use Rattle.std.proofs.lemmas.Bool.{cases_lt}
+-- How many elements pass a test; so what is covered is counted.
+use Rattle.std.proofs.Common.{◌≡◌, ℕ, zero, suc, ◌+◌, ◌<◌, ◌≤◌, ◌↔◌, Bool, true, false, cond, List, [], ◌∷◌, length, get_or, All, Contains, count_by, bytes_eq, inl, inr, refl, sym, ap, ◌∙◌, subst, arith}
+use Rattle.std.proofs.lemmas.Bool.{cases_lt, false_from_ne_true}
+use Rattle.std.proofs.lemmas.List.{get_or_default}
+use Rattle.std.proofs.lemmas.List.Elements.{All-head, All-tail, All-from_get_or}
 use Rattle.std.proofs.lemmas.List.Sums.{sum_by-cons}
 use Rattle.std.proofs.lemmas.Slice.Eq.{bytes_eq-Decides}
 use Rattle.cr_model.specs.Problems.{ProblemParts}
@@ -10,16 +12,57 @@ use Rattle.cr_model.proofs.InOrder.{contains_cases, contains_more, none_held}
 
 module _ {X : Type 0} (test : X → Bool) where
   -- the count with an element in front
-  count_more : (x : X) (xs : List X) → count_by test (x ∷ xs) ≡ cond (test x) 1 0 + count_by test xs
+  pub count_more : (x : X) (xs : List X) → count_by test (x ∷ xs) ≡ cond (test x) 1 0 + count_by test xs
   count_more x xs = sum_by-cons (λ y. cond (test y) 1 0) x xs
+
+  pub count_yes : (x : X) (xs : List X) → test x ≡ true → count_by test (x ∷ xs) ≡ 1 + count_by test xs
+  count_yes x xs h = count_more x xs ∙ ap (λ b. cond b 1 0 + count_by test xs) h
+
+  pub count_no : (x : X) (xs : List X) → test x ≡ false → count_by test (x ∷ xs) ≡ count_by test xs
+  count_no x xs h = count_more x xs ∙ ap (λ b. cond b 1 0 + count_by test xs) h ∙ omega arith
+
+  -- where none passes the count is zero
+  pub count_none : (xs : List X) → All (λ x. test x ≡ false) xs → count_by test xs ≡ 0
+  count_none [] none = refl
+  count_none (x ∷ xs) none = count_no x xs (All-head (λ y. test y ≡ false) x xs none) ∙ count_none xs (All-tail (λ y. test y ≡ false) x xs none)
+
+  pub none_count : (xs : List X) (d : X) → ((i : ℕ) → i < length xs → test (get_or xs i d) ≡ false) → count_by test xs ≡ 0
+  none_count xs d none = count_none xs (All-from_get_or (λ x. test x ≡ false) xs d none)
 
   -- a held element that passes is counted
   pub counted : (x : X) (xs : List X) → Contains xs x → test x ≡ true → 1 ≤ count_by test xs
   counted x [] held passes = absurd (none_held x held)
   counted x (y ∷ xs) held passes = elim (contains_cases y x xs held) [
-    | inl e ↦ let one : cond {A = ℕ} (test y) 1 0 ≡ 1 = ap (λ z. cond (test z) 1 0) e ∙ ap (λ b. cond b 1 0) passes in omega (arith, count_more y xs)
+    | inl e ↦ omega (arith, count_yes y xs (ap test e ∙ passes))
     | inr later ↦ omega (arith, count_more y xs, counted x xs later passes)
   ]
+
+  pub one_counts : (xs : List X) (i : ℕ) (d : X) → i < length xs → test (get_or xs i d) ≡ true → 1 ≤ count_by test xs
+  one_counts xs i d inside passes = counted (get_or xs i d) xs (i, inside, get_or_default xs i (get_or xs i d) d inside) passes
+
+  -- two at different places are counted as two
+  pub two_count : (xs : List X) (i j : ℕ) (d : X) → i < j → j < length xs → test (get_or xs i d) ≡ true → test (get_or xs j d) ≡ true → 2 ≤ count_by test xs
+  two_count [] i j d before inside first second = absurd (omega arith)
+  two_count (x ∷ xs) i zero d before inside first second = absurd (omega arith)
+  two_count (x ∷ xs) zero (suc j) d before inside first second = omega (arith, count_yes x xs first, one_counts xs j d (omega arith) second)
+  two_count (x ∷ xs) (suc i) (suc j) d before inside first second =
+      omega (arith, count_more x xs, two_count xs i j d (omega arith) (omega arith) first second)
+
+  -- where the count is zero none passes
+  pub none_passes : (xs : List X) (d : X) → count_by test xs ≡ 0 → (i : ℕ) → i < length xs → test (get_or xs i d) ≡ false
+  none_passes xs d zero_count i inside = false_from_ne_true (test (get_or xs i d)) (λ passes. absurd (omega (arith, one_counts xs i d inside passes)))
+
+  -- where no two pass the count is one at most
+  pub few_count : (xs : List X) (d : X) → ((i j : ℕ) → i < j → j < length xs → test (get_or xs i d) ≡ true → test (get_or xs j d) ≡ true → ⊥) → count_by test xs ≤ 1
+  few_count [] d apart = omega arith
+  few_count (x ∷ xs) d apart =
+      by (test x) refl (few_count xs d (λ i j before inside one two. apart (suc i) (suc j) (omega arith) (omega arith) one two))
+    where
+      by : (b : Bool) → test x ≡ b → count_by test xs ≤ 1 → count_by test (x ∷ xs) ≤ 1
+      by true first few =
+          let rest = none_count xs d (λ i inside. false_from_ne_true (test (get_or xs i d)) (λ passes. apart zero (suc i) (omega arith) (omega arith) first passes)) in
+          omega (arith, count_yes x xs first, rest)
+      by false first few = omega (arith, count_no x xs first, few)
 
   -- a count of at least one has an element that passes
   pub passing : (xs : List X) → 1 ≤ count_by test xs → (x : X) × Contains xs x × (test x ≡ true)
@@ -29,8 +72,7 @@ module _ {X : Type 0} (test : X → Bool) where
       by : (b : Bool) → test x ≡ b → (1 ≤ count_by test xs → (y : X) × Contains xs y × (test y ≡ true)) → (y : X) × Contains (x ∷ xs) y × (test y ≡ true)
       by true h later = (x, (zero, omega arith, refl), h)
       by false h later =
-          let none : cond {A = ℕ} (test x) 1 0 ≡ 0 = ap (λ b. cond b 1 0) h in
-          let (y, held, passes) = later (omega (arith, count_more x xs)) in
+          let (y, held, passes) = later (omega (arith, count_no x xs h)) in
           (y, contains_more x y xs held, passes)
 
 -- what was found was found at least once

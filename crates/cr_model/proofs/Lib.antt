@@ -2,6 +2,7 @@ pub mod AmongOthers
 pub mod Bells
 pub mod Below
 pub mod BookExists
+pub mod Bytes
 pub mod Checking
 pub mod Counting
 pub mod Cuts
@@ -10,13 +11,16 @@ pub mod Deciding
 pub mod Differing
 pub mod FirstFailure
 pub mod InOrder
+pub mod Independence
 pub mod KeptTest
+pub mod Lacking
 pub mod LeastLeads
 pub mod LeastRotation
 pub mod Listed
 pub mod Measured
 pub mod Minimus
 pub mod NewRows
+pub mod Numerals
 pub mod OneFault
 pub mod Parts
 pub mod Prefixes
@@ -27,6 +31,7 @@ pub mod RingingBack
 pub mod Rotations
 pub mod Sizing
 pub mod Splitting
+pub mod StepsDiffer
 pub mod TurnSplits
 pub mod Turned
 pub mod TurnedBack

@@ -5,10 +5,9 @@ use Rattle.std.specs.List.Sorted.{IsStrictlyIncreasing, IsStrictlySortedBy}
 use Rattle.std.specs.Ordering.{nat_cmp}
 use Rattle.std.proofs.lemmas.Bool.{cases_lt, cases_eq, true≢false, false_from_ne_true}
 use Rattle.std.proofs.lemmas.List.{get_or-map, length-map}
-use Rattle.std.proofs.lemmas.List.Elements.{All-nil, All-cons, All-head, All-tail, All-append, All-map, All-filter, filter_passes, All-from_get_or}
+use Rattle.std.proofs.lemmas.List.Elements.{All-nil, All-cons, All-head, All-append, All-map, All-filter, filter_passes, All-from_get_or}
 use Rattle.std.proofs.lemmas.List.FromFn.{get_or-range_with_len, length-range_with_len}
 use Rattle.std.proofs.lemmas.List.Kept.{IsStrictlySortedBy-filter}
-use Rattle.std.proofs.lemmas.List.Sums.{sum_by-cons}
 use Rattle.std.proofs.lemmas.Map.Keys.{sorted_from_strictly_increasing, below_from_sorted}
 use Rattle.std.proofs.lemmas.Slice.Eq.{bytes_eq-Decides}
 use Rattle.cr_model.specs.declared.reason.Reason.{Reason}
@@ -22,6 +21,7 @@ use Rattle.cr_model.specs.Dead.{HasNoneBelow, parts_of, dead}
 use Rattle.cr_model.specs.Sizes.{child, children, live_children}
 use Rattle.cr_model.specs.OneTurn.{touch_of, touch_found}
 use Rattle.cr_model.proofs.Below.{words, some_parts, Below, below, rest_steps}
+use Rattle.cr_model.proofs.Counting.{count_more, count_yes, count_no, count_none}
 use Rattle.cr_model.proofs.KeptTest.{is_kept_decided}
 use Rattle.cr_model.proofs.Parts.{first_word}
 use Rattle.cr_model.proofs.Prefixes.{prefix_iff, begins_itself, begins_onward}
@@ -53,28 +53,14 @@ differ_by_test : (a b : ℕ) → a ≢ b → nat_eq a b ≡ false
 differ_by_test a b differ = false_from_ne_true (nat_eq a b) (λ h. differ (eqb-true a b h))
 
 module _ {X : Type 0} (test : X → Bool) where
-  count_first : (x : X) (xs : List X) → count_by test (x ∷ xs) ≡ cond (test x) 1 0 + count_by test xs
-  count_first x xs = sum_by-cons (λ y. cond (test y) 1 0) x xs
-
-  count_yes : (x : X) (xs : List X) → test x ≡ true → count_by test (x ∷ xs) ≡ 1 + count_by test xs
-  count_yes x xs h = count_first x xs ∙ ap (λ b. cond b 1 0 + count_by test xs) h
-
-  count_no : (x : X) (xs : List X) → test x ≡ false → count_by test (x ∷ xs) ≡ count_by test xs
-  count_no x xs h = count_first x xs ∙ ap (λ b. cond b 1 0 + count_by test xs) h ∙ omega arith
-
-  -- where nothing passes
-  pub count_none : (xs : List X) → All (λ x. test x ≡ false) xs → count_by test xs ≡ 0
-  count_none [] none = refl
-  count_none (x ∷ xs) none = count_no x xs (All-head (λ y. test y ≡ false) x xs none) ∙ count_none xs (All-tail (λ y. test y ≡ false) x xs none)
-
   -- what is left out does not pass
   count_filtered : (keeps : X → Bool) (xs : List X) → ((x : X) → keeps x ≡ false → test x ≡ false) → count_by test (filter keeps xs) ≡ count_by test xs
   count_filtered keeps [] fails = refl
   count_filtered keeps (x ∷ xs) fails = by (keeps x) refl (count_filtered keeps xs fails)
     where
       by : (b : Bool) → keeps x ≡ b → count_by test (filter keeps xs) ≡ count_by test xs → count_by test (cond b (x ∷ filter keeps xs) (filter keeps xs)) ≡ count_by test (x ∷ xs)
-      by true h rest = count_first x (filter keeps xs) ∙ ap (λ n. cond (test x) 1 0 + n) rest ∙ sym (count_first x xs)
-      by false h rest = rest ∙ sym (count_no x xs (fails x h))
+      by true h rest = count_more test x (filter keeps xs) ∙ ap (λ n. cond (test x) 1 0 + n) rest ∙ sym (count_more test x xs)
+      by false h rest = rest ∙ sym (count_no test x xs (fails x h))
 
 -- one child begins with the next step, if it is one of those
 module _ (node rest : List ℕ) (next : ℕ) where

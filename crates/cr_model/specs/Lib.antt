@@ -28,3 +28,4 @@ pub mod ProblemFiles
 pub mod Checkpoints
 pub mod Inputs
 pub mod StepLists
+pub mod Texts

@@ -1,5 +1,5 @@
 -- Prefixes and the lexicographic order.
-use Rattle.std.proofs.Common.{◌≡◌, ℕ, ◌<◌, ◌↔◌, ◌⊎◌, true, false, ◌&&◌, cond, nat_eq, List, [], ◌∷◌, inl, inr, refl, sym, ap, ap₂, ◌∙◌, subst}
+use Rattle.std.proofs.Common.{◌≡◌, ℕ, ◌<◌, ◌↔◌, true, false, ◌&&◌, cond, nat_eq, List, [], ◌∷◌, inl, inr, refl, sym, ap, ap₂, ◌∙◌, subst}
 use Rattle.std.specs.Bool.{IsTrue}
 use Rattle.std.specs.Cmp.Lexicographic.{slice_cmp}
 use Rattle.std.specs.List.{starts_with}
@@ -21,11 +21,6 @@ pub prefix_test : (node steps : List ℕ) → starts_with nat_eq steps node ≡ 
 prefix_test [] steps = refl
 prefix_test (x ∷ node) [] = refl
 prefix_test (x ∷ node) (y ∷ steps) = ap (λ t. nat_eq x y && t) (prefix_test node steps)
-
--- a word begins itself
-pub begins_itself : (word : List ℕ) → is_prefix word word ≡ true
-begins_itself [] = refl
-begins_itself (x ∷ word) = and_from (nat_eq x x) (is_prefix word word) (eq-eqb x x refl) (begins_itself word)
 
 cmp_less : (x y : ℕ) → x < y → nat_cmp x y ≡ Less
 cmp_less x y h = ap (λ t. cond t Less (cond (nat_eq x y) Equal Greater)) (lt-ltb x y h)
@@ -67,18 +62,3 @@ same_word (x ∷ word) (y ∷ other) begins h =
     let both = and_parts (nat_eq x y) (is_prefix word other) begins in
     let same : x ≡ y = eqb-true x y both.0 in
     ap₂ ◌∷◌ same (same_word word other both.1 (rest_not_less x y (slice_cmp nat_cmp word other) h same))
-
--- of two beginnings of one word, one begins the other
-pub comparable : (node other steps : List ℕ) → is_prefix node steps ≡ true → is_prefix other steps ≡ true
-    → (is_prefix node other ≡ true) ⊎ (is_prefix other node ≡ true)
-comparable [] other steps one two = inl refl
-comparable (x ∷ node) [] steps one two = inr refl
-comparable (x ∷ node) (y ∷ other) [] one two = absurd (false≢true one)
-comparable (x ∷ node) (y ∷ other) (z ∷ steps) one two =
-    let first = and_parts (nat_eq x z) (is_prefix node steps) one in
-    let second = and_parts (nat_eq y z) (is_prefix other steps) two in
-    let same : x ≡ y = eqb-true x z first.0 ∙ sym (eqb-true y z second.0) in
-    elim (comparable node other steps first.1 second.1) [
-      | inl h ↦ inl (and_from (nat_eq x y) (is_prefix node other) (eq-eqb x y same) h)
-      | inr h ↦ inr (and_from (nat_eq y x) (is_prefix other node) (eq-eqb y x (sym same)) h)
-    ]

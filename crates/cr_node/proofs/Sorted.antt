@@ -14,7 +14,8 @@ use Rattle.std.proofs.lemmas.List.Sorted.{sorted_far, ranks_by}
 use Rattle.std.proofs.lemmas.Map.Keys.{IsDistinct-from_apart, IsDistinct-IsPermutation, apart_from_distinct}
 use Rattle.cr_model.specs.Nodes.{is_prefix}
 use Rattle.cr_node.specs.Overlaps.{Item, of_node, item_at, begins, overlaps, ApartBelow, NoneBeginsNext}
-use Rattle.cr_node.proofs.Order.{between, same_word, begins_itself}
+use Rattle.cr_model.proofs.Prefixes.{begins_itself}
+use Rattle.cr_node.proofs.Order.{between, same_word}
 
 -- by word, and of equal words nodes first
 abbrev pub item_cmp : Item → Item → Ordering

@@ -1,4 +1,19 @@
 //! Place notation: texts that spell changes.
+//!
+//! A text like `x14x14,12` spells the changes of a lead. What is behind a comma, and what is before it, is rung
+//! forwards and then backwards without the last change again.
+//!
+//! - [`read_notation`]: the changes that a text spells, or its first fault (`cr_model::NotationFault`).
+//! - [`write_notation`]: the one spelling of some changes that is written everywhere.
+//!
+//! Both fail for want of memory too. The other public functions are laws: each does nothing, and its contract is what
+//! is proved of texts.
+//!
+//! ```rust
+//! let stage = Stage::new(4).ok_or("4 bells are a stage")?;
+//! let changes = read_notation(alloc, stage, "x14x14,12")?;
+//! let text = write_notation(alloc, stage, &changes)?;
+//! ```
 #![tactic(auto)]
 
 mod kept;

@@ -4,119 +4,42 @@ ghost use Rattle.cr_leads.specs.Tables.{lead_table};
 ghost use Rattle.cr_reach.specs.Tables.{reach_table};
 
 use cr_leads::LeadTable;
-use cr_model::{Lead, Problem, Query, Step};
+use cr_model::Problem;
 use cr_path::NumberTable;
 use cr_reach::ReachTable;
-use cr_row::{Change, Stage};
+use cr_samples::{DOUBLES, Draft, MINIMUS, MINOR, problem_of};
 use std::alloc::Global;
 use std::test::*;
 
-// A problem in short: the stage, the greatest length, and of each lead the mark and the changes, by the places made or
-// `x` for none.
-#[derive(Clone, Copy)]
-struct Draft {
-    stage: u8,
-    max: i64,
-    leads: &'static [(u8, &'static [u8])],
-}
-
-// Plain Bob on four bells, with the plain lead alone.
-const MINIMUS: Draft = Draft {
-    stage: 4,
-    max: 24,
-    leads: &[(b'p', b"x.14.x.14.x.14.x.12")],
-};
-
 // Two leads of four changes.
 const FOURS: Draft = Draft {
-    stage: 4,
-    max: 24,
-    leads: &[(b'p', b"x.14.x.12"), (b'b', b"x.14.12.14")],
+    leads: &[(0, b'p', b"x.14.x.12"), (0, b'b', b"x.14.12.14")],
+    ..MINIMUS
 };
 
-// On five bells with bobs.
-const DOUBLES: Draft = Draft {
-    stage: 5,
-    max: 120,
-    leads: &[
-        (b'p', b"5.1.5.1.5.1.5.1.5.125"),
-        (b'b', b"5.1.5.1.5.1.5.1.5.145"),
-    ],
-};
-
-// On six bells with bobs and singles.
-const MINOR: Draft = Draft {
-    stage: 6,
-    max: 72,
-    leads: &[
-        (b'p', b"x.16.x.16.x.16.x.16.x.16.x.12"),
-        (b'b', b"x.16.x.16.x.16.x.16.x.16.x.14"),
-        (b's', b"x.16.x.16.x.16.x.16.x.16.x.1234"),
-    ],
-};
-
-// On ten bells with bobs and singles. The last place is 0.
+// Plain Bob Royal with bobs and singles.
 const ROYAL: Draft = Draft {
     stage: 10,
-    max: 400,
     leads: &[
-        (b'p', b"x.10.x.10.x.10.x.10.x.10.x.10.x.10.x.10.x.10.x.12"),
-        (b'b', b"x.10.x.10.x.10.x.10.x.10.x.10.x.10.x.10.x.10.x.14"),
-        (b's', b"x.10.x.10.x.10.x.10.x.10.x.10.x.10.x.10.x.10.x.1234"),
+        (
+            0,
+            b'p',
+            b"x.10.x.10.x.10.x.10.x.10.x.10.x.10.x.10.x.10.x.12",
+        ),
+        (
+            0,
+            b'b',
+            b"x.10.x.10.x.10.x.10.x.10.x.10.x.10.x.10.x.10.x.14",
+        ),
+        (
+            0,
+            b's',
+            b"x.10.x.10.x.10.x.10.x.10.x.10.x.10.x.10.x.10.x.1234",
+        ),
     ],
+    length: (1, 400),
+    ..DOUBLES
 };
-
-fn place_of(byte: u8) -> u8 {
-    match byte {
-        b'0' => 10,
-        _ => byte.saturating_sub(b'0'),
-    }
-}
-
-fn changes_of(alloc: Global, stage: Stage, text: &[u8]) -> Result<Vec<Change>, Fail> {
-    let mut changes = Vec::new(alloc);
-    for group in text.split(|byte| *byte == b'.') {
-        let mut places = Vec::new(alloc);
-        for byte in group {
-            if *byte != b'x' {
-                places.push(place_of(*byte))?;
-            }
-        }
-        let change = Change::from_places(stage, &places).ok();
-        changes.push(change.ok_or("the places are those of a change")?)?;
-    }
-    Ok(changes)
-}
-
-fn any_touch(alloc: Global, max: i64) -> Query {
-    Query {
-        min: 1,
-        max,
-        parts: 1,
-        counts: Vec::new(alloc),
-        method_counts: Vec::new(alloc),
-        patterns: Vec::new(alloc),
-        com: None,
-    }
-}
-
-fn problem(alloc: Global, draft: &Draft) -> Result<Problem, Fail> {
-    let stage = Stage::new(draft.stage).ok_or("the stage is from 3 to 16")?;
-    let letters = (b"A").to_vec(alloc)?;
-    let mut leads = Vec::new(alloc);
-    for (mark, text) in draft.leads {
-        let step = Step {
-            method: 0,
-            mark: *mark,
-        };
-        let changes = changes_of(alloc, stage, text)?;
-        leads.push(Lead { step, changes })?;
-    }
-    match Problem::new(stage, letters, leads, any_touch(alloc, draft.max)) {
-        Ok(problem) => Ok(problem),
-        Err(_) => Err(Fail::from("the parts are refused")),
-    }
-}
 
 fn leads_of(alloc: Global, problem: &Problem) -> Result<LeadTable, Fail>
     ensures { IfOk result (λ leads. leads ≡ lead_table problem.now) }
@@ -140,7 +63,7 @@ fn reach_of(alloc: Global, problem: &Problem, leads: &LeadTable) -> Result<Reach
 }
 
 fn table(alloc: Global, draft: &Draft, most_heads: u64) -> Result<Option<NumberTable>, Fail> {
-    let problem = problem(alloc, draft)?;
+    let problem = problem_of(alloc, draft)?;
     let leads = leads_of(alloc, &problem)?;
     let reach = reach_of(alloc, &problem, &leads)?;
     match NumberTable::new(alloc, &problem, &leads, &reach, most_heads) {

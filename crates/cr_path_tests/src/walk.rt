@@ -4,43 +4,12 @@ ghost use Rattle.cr_path.specs.Numbers.{IsNumbered};
 
 use cr_leads::{LeadTable, Rung};
 use cr_model::Cell::Bell;
-use cr_model::{Calling, Cell, Com, Count, Lead, Pattern, Problem, Query, Step};
+use cr_model::{Calling, Problem};
 use cr_path::{NumberTable, NumberWalk};
 use cr_reach::ReachTable;
-use cr_row::{Change, Stage};
+use cr_samples::{DOUBLES, Draft, problem_of};
 use std::alloc::Global;
 use std::test::*;
-
-// A problem in short: of each lead the method, the mark and the changes, by the places made or `x` for none. At
-// least one row fits the cells, where there are some.
-#[derive(Clone, Copy)]
-struct Draft {
-    stage: u8,
-    letters: &'static [u8],
-    leads: &'static [(u8, u8, &'static [u8])],
-    min: i64,
-    max: i64,
-    parts: i64,
-    counts: &'static [Count],
-    cells: &'static [Cell],
-    com: Option<Com>,
-}
-
-// Plain Bob Doubles: p and b.
-const DOUBLES: Draft = Draft {
-    stage: 5,
-    letters: b"A",
-    leads: &[
-        (0, b'p', b"5.1.5.1.5.1.5.1.5.125"),
-        (0, b'b', b"5.1.5.1.5.1.5.1.5.145"),
-    ],
-    min: 1,
-    max: 120,
-    parts: 1,
-    counts: &[],
-    cells: &[],
-    com: None,
-};
 
 const TWO_PARTS: Draft = Draft {
     parts: 2,
@@ -53,64 +22,10 @@ const THREE_PARTS: Draft = Draft {
 };
 
 const ASKED: Draft = Draft {
-    min: 60,
-    max: 60,
+    length: (60, 60),
     cells: &[Bell(1), Bell(4), Bell(2), Bell(5), Bell(3)],
     ..DOUBLES
 };
-
-fn changes_of(alloc: Global, stage: Stage, text: &[u8]) -> Result<Vec<Change>, Fail> {
-    let mut changes = Vec::new(alloc);
-    for group in text.split(|byte| *byte == b'.') {
-        let mut places = Vec::new(alloc);
-        for byte in group {
-            if *byte != b'x' {
-                places.push(byte.saturating_sub(b'0'))?;
-            }
-        }
-        let change = Change::from_places(stage, &places).ok();
-        changes.push(change.ok_or("the places are those of a change")?)?;
-    }
-    Ok(changes)
-}
-
-fn query_of(alloc: Global, draft: &Draft) -> Result<Query, Fail> {
-    let mut patterns = Vec::new(alloc);
-    if !draft.cells.is_empty() {
-        patterns.push(Pattern {
-            cells: draft.cells.to_vec(alloc)?,
-            min: 1,
-            max: 12_000,
-        })?;
-    }
-    Ok(Query {
-        min: draft.min,
-        max: draft.max,
-        parts: draft.parts,
-        counts: draft.counts.to_vec(alloc)?,
-        method_counts: Vec::new(alloc),
-        patterns,
-        com: draft.com,
-    })
-}
-
-fn problem_of(alloc: Global, draft: &Draft) -> Result<Problem, Fail> {
-    let stage = Stage::new(draft.stage).ok_or("the stage is from 3 to 16")?;
-    let mut leads = Vec::new(alloc);
-    for (method, mark, text) in draft.leads {
-        let step = Step {
-            method: *method,
-            mark: *mark,
-        };
-        let changes = changes_of(alloc, stage, text)?;
-        leads.push(Lead { step, changes })?;
-    }
-    let letters = draft.letters.to_vec(alloc)?;
-    match Problem::new(stage, letters, leads, query_of(alloc, draft)?) {
-        Ok(problem) => Ok(problem),
-        Err(_) => Err(Fail::from("the parts are refused")),
-    }
-}
 
 fn leads_of(alloc: Global, problem: &Problem) -> Result<LeadTable, Fail>
     ensures { IfOk result (λ leads. leads ≡ lead_table problem.now) }

@@ -7,10 +7,10 @@ ghost use Rattle.cr_false.specs.Sets.{IsFalseTable};
 use cr_false::{Built, FalseTable};
 use cr_leads::LeadTable;
 use cr_model::Cell::Bell;
-use cr_model::{Cell, Com, Count, Lead, Pattern, Problem, Query, Reason, Step};
+use cr_model::{Com, Count, Problem, Reason};
 use cr_prune::{Pruner, Walk};
 use cr_reach::ReachTable;
-use cr_row::{Change, Stage};
+use cr_samples::{DOUBLES, Draft, MINIMUS_WITH_SINGLES, SPLICED, problem_of};
 use std::alloc::Global;
 use std::test::*;
 use std::thread::Threads;
@@ -18,43 +18,15 @@ use std::thread::Threads;
 mod plain;
 mod trees;
 
-// A problem in short: of each lead the method, the mark and the changes, by the places made or `x` for none. At
-// least one row fits the cells, where there are some.
-#[derive(Clone, Copy)]
-struct Draft {
-    stage: u8,
-    letters: &'static [u8],
-    leads: &'static [(u8, u8, &'static [u8])],
-    min: i64,
-    max: i64,
-    parts: i64,
-    counts: &'static [Count],
-    cells: &'static [Cell],
-    com: Option<Com>,
-}
-
-// Plain Bob Doubles: p and b.
-const DOUBLES: Draft = Draft {
-    stage: 5,
-    letters: b"A",
-    leads: &[
-        (0, b'p', b"5.1.5.1.5.1.5.1.5.125"),
-        (0, b'b', b"5.1.5.1.5.1.5.1.5.145"),
-    ],
-    min: 1,
-    max: 120,
-    parts: 1,
-    counts: &[],
-    cells: &[],
-    com: None,
-};
-
 const IN_TWO_PARTS: Draft = Draft {
     parts: 2,
     ..DOUBLES
 };
 
-const SHORT: Draft = Draft { max: 20, ..DOUBLES };
+const SHORT: Draft = Draft {
+    length: (1, 20),
+    ..DOUBLES
+};
 
 const NO_BOBS: Draft = Draft {
     counts: &[Count {
@@ -66,8 +38,7 @@ const NO_BOBS: Draft = Draft {
 };
 
 const FOUR_BOBS: Draft = Draft {
-    min: 60,
-    max: 60,
+    length: (60, 60),
     counts: &[Count {
         mark: b'b',
         min: 4,
@@ -77,32 +48,9 @@ const FOUR_BOBS: Draft = Draft {
 };
 
 const ASKED: Draft = Draft {
-    min: 60,
-    max: 60,
+    length: (60, 60),
     cells: &[Bell(1), Bell(4), Bell(2), Bell(5), Bell(3)],
     ..DOUBLES
-};
-
-// Plain Bob Minimus with a call that makes all places: p and s.
-const MINIMUS: Draft = Draft {
-    stage: 4,
-    leads: &[
-        (0, b'p', b"x.14.x.14.x.14.x.12"),
-        (0, b's', b"x.14.x.14.x.14.x.1234"),
-    ],
-    max: 24,
-    ..DOUBLES
-};
-
-// Two methods of the same changes: Ap and Cp.
-const SPLICED: Draft = Draft {
-    letters: b"AC",
-    leads: &[
-        (0, b'p', b"x.14.x.14.x.14.x.12"),
-        (1, b'p', b"x.14.x.14.x.14.x.12"),
-    ],
-    min: 24,
-    ..MINIMUS
 };
 
 const CHANGING: Draft = Draft {
@@ -112,59 +60,6 @@ const CHANGING: Draft = Draft {
     }),
     ..SPLICED
 };
-
-fn changes_of(alloc: Global, stage: Stage, text: &[u8]) -> Result<Vec<Change>, Fail> {
-    let mut changes = Vec::new(alloc);
-    for group in text.split(|byte| *byte == b'.') {
-        let mut places = Vec::new(alloc);
-        for byte in group {
-            if *byte != b'x' {
-                places.push(byte.saturating_sub(b'0'))?;
-            }
-        }
-        let change = Change::from_places(stage, &places).ok();
-        changes.push(change.ok_or("the places are those of a change")?)?;
-    }
-    Ok(changes)
-}
-
-fn query_of(alloc: Global, draft: &Draft) -> Result<Query, Fail> {
-    let mut patterns = Vec::new(alloc);
-    if !draft.cells.is_empty() {
-        patterns.push(Pattern {
-            cells: draft.cells.to_vec(alloc)?,
-            min: 1,
-            max: 12_000,
-        })?;
-    }
-    Ok(Query {
-        min: draft.min,
-        max: draft.max,
-        parts: draft.parts,
-        counts: draft.counts.to_vec(alloc)?,
-        method_counts: Vec::new(alloc),
-        patterns,
-        com: draft.com,
-    })
-}
-
-fn problem_of(alloc: Global, draft: &Draft) -> Result<Problem, Fail> {
-    let stage = Stage::new(draft.stage).ok_or("the stage is from 3 to 16")?;
-    let letters = draft.letters.to_vec(alloc)?;
-    let mut leads = Vec::new(alloc);
-    for (method, mark, text) in draft.leads {
-        let step = Step {
-            method: *method,
-            mark: *mark,
-        };
-        let changes = changes_of(alloc, stage, text)?;
-        leads.push(Lead { step, changes })?;
-    }
-    match Problem::new(stage, letters, leads, query_of(alloc, draft)?) {
-        Ok(problem) => Ok(problem),
-        Err(_) => Err(Fail::from("the parts are refused")),
-    }
-}
 
 fn lead_table(alloc: Global, problem: &Problem) -> Result<LeadTable, Fail>
     ensures { IfOk result (λ leads. leads ≡ lead_table problem.now) }
@@ -285,7 +180,7 @@ const NODES: &[(&str, Draft, &[u8], Option<Reason>)] = &[
     ("pppp", DOUBLES, &[0, 0, 0, 0], None),
     ("13 times p", DOUBLES, &[0; 13], Some(Reason::Long)),
     ("11 times p", DOUBLES, &[0; 11], Some(Reason::Again)),
-    ("s", MINIMUS, &[1], Some(Reason::SelfFalse)),
+    ("s", MINIMUS_WITH_SINGLES, &[1], Some(Reason::SelfFalse)),
     ("bbb", DOUBLES, &[1, 1, 1], Some(Reason::Again)),
     ("bb in parts", IN_TWO_PARTS, &[1, 1], Some(Reason::Home)),
     ("p of 20 changes", SHORT, &[0], Some(Reason::Far)),

@@ -9,54 +9,16 @@ ghost use Rattle.cr_query.specs.Meters.{parent};
 
 use cr_leads::LeadTable;
 use cr_model::Cell::{Any, Bell, Run};
-use cr_model::{Calling, Cell, Com, Count, Lead, MethodCount, Pattern, Problem, Query, Step};
+use cr_model::{Calling, Cell, Com, Count, MethodCount, Pattern, Problem, Query};
 use cr_query::{Hopeless, Meter, Shape, is_kept, meets, turn_free};
-use cr_row::{Change, Row, Stage};
+use cr_row::{Row, Stage};
+use cr_samples::{DOUBLES, Draft, SPLICED, problem_of, query_of};
 use std::alloc::Global;
 use std::test::*;
 
-// A problem in short: of each lead the method, the mark and the changes, by the places made or `x` for none.
-// The numbers are the least and the greatest of the length, and of the rows that fit the cells if there are some.
-#[derive(Clone, Copy)]
-struct Draft {
-    stage: u8,
-    letters: &'static [u8],
-    leads: &'static [(u8, u8, &'static [u8])],
-    length: (i64, i64),
-    parts: i64,
-    counts: &'static [Count],
-    method_counts: &'static [MethodCount],
-    cells: &'static [Cell],
-    fitting: (i64, i64),
-    com: Option<Com>,
-}
-
-// Plain Bob Doubles, of 60 changes.
-const DOUBLES: Draft = Draft {
-    stage: 5,
-    letters: b"A",
-    leads: &[
-        (0, b'p', b"5.1.5.1.5.1.5.1.5.125"),
-        (0, b'b', b"5.1.5.1.5.1.5.1.5.145"),
-    ],
+// Plain Bob Doubles with bobs, of 60 changes.
+const OF_SIXTY: Draft = Draft {
     length: (60, 60),
-    parts: 1,
-    counts: &[],
-    method_counts: &[],
-    cells: &[],
-    fitting: (0, 0),
-    com: None,
-};
-
-// Two methods of the same changes, of 24 changes.
-const SPLICED: Draft = Draft {
-    stage: 4,
-    letters: b"AC",
-    leads: &[
-        (0, b'p', b"x.14.x.14.x.14.x.12"),
-        (1, b'p', b"x.14.x.14.x.14.x.12"),
-    ],
-    length: (24, 24),
     ..DOUBLES
 };
 
@@ -81,55 +43,55 @@ const FIVE_BOBS: &[Count] = &[Count {
 const ASKED: Draft = Draft {
     cells: &[Bell(1), Bell(4), Bell(2), Bell(5), Bell(3)],
     fitting: (1, 1),
-    ..DOUBLES
+    ..OF_SIXTY
 };
 
 const THREE_PARTS: Draft = Draft {
     parts: 3,
-    ..DOUBLES
+    ..OF_SIXTY
 };
 
 const TWO_PARTS: Draft = Draft {
     parts: 2,
-    ..DOUBLES
+    ..OF_SIXTY
 };
 
 const ONE_BOB_IN_TWO_PARTS: Draft = Draft {
     length: (20, 20),
     parts: 2,
     counts: ONE_BOB,
-    ..DOUBLES
+    ..OF_SIXTY
 };
 
 const TWO_BOBS_IN_TWO_PARTS: Draft = Draft {
     length: (20, 20),
     parts: 2,
     counts: TWO_BOBS,
-    ..DOUBLES
+    ..OF_SIXTY
 };
 
 const FIVE_BOBS_OF_59_CHANGES: Draft = Draft {
     length: (55, 59),
     counts: FIVE_BOBS,
-    ..DOUBLES
+    ..OF_SIXTY
 };
 
 const FEW_ROWS: Draft = Draft {
     cells: &[Run],
     fitting: (0, 15),
-    ..DOUBLES
+    ..OF_SIXTY
 };
 
 const NO_QUEENS: Draft = Draft {
     cells: &[Bell(1), Bell(5), Bell(4), Bell(3), Bell(2)],
     fitting: (0, 0),
-    ..DOUBLES
+    ..OF_SIXTY
 };
 
 const MANY_ROUNDS: Draft = Draft {
     cells: &[Bell(1), Bell(2), Bell(3), Bell(4), Bell(5)],
     fitting: (51, 60),
-    ..DOUBLES
+    ..OF_SIXTY
 };
 
 const MANY_ROUNDS_BUT_ONE: Draft = Draft {
@@ -166,59 +128,6 @@ const NEVER_CHANGING_ALL_C: Draft = Draft {
     ..NEVER_CHANGING
 };
 
-fn changes_of(alloc: Global, stage: Stage, text: &[u8]) -> Result<Vec<Change>, Fail> {
-    let mut changes = Vec::new(alloc);
-    for group in text.split(|byte| *byte == b'.') {
-        let mut places = Vec::new(alloc);
-        for byte in group {
-            if *byte != b'x' {
-                places.push(byte.saturating_sub(b'0'))?;
-            }
-        }
-        let change = Change::from_places(stage, &places).ok();
-        changes.push(change.ok_or("the places are those of a change")?)?;
-    }
-    Ok(changes)
-}
-
-fn query_of(alloc: Global, draft: &Draft) -> Result<Query, Fail> {
-    let mut patterns = Vec::new(alloc);
-    if !draft.cells.is_empty() {
-        patterns.push(Pattern {
-            cells: draft.cells.to_vec(alloc)?,
-            min: draft.fitting.0,
-            max: draft.fitting.1,
-        })?;
-    }
-    Ok(Query {
-        min: draft.length.0,
-        max: draft.length.1,
-        parts: draft.parts,
-        counts: draft.counts.to_vec(alloc)?,
-        method_counts: draft.method_counts.to_vec(alloc)?,
-        patterns,
-        com: draft.com,
-    })
-}
-
-fn problem(alloc: Global, draft: &Draft) -> Result<Problem, Fail> {
-    let stage = Stage::new(draft.stage).ok_or("the stage is from 3 to 16")?;
-    let letters = draft.letters.to_vec(alloc)?;
-    let mut leads = Vec::new(alloc);
-    for (method, mark, text) in draft.leads {
-        let step = Step {
-            method: *method,
-            mark: *mark,
-        };
-        let changes = changes_of(alloc, stage, text)?;
-        leads.push(Lead { step, changes })?;
-    }
-    match Problem::new(stage, letters, leads, query_of(alloc, draft)?) {
-        Ok(problem) => Ok(problem),
-        Err(_) => Err(Fail::from("the parts are refused")),
-    }
-}
-
 fn table(alloc: Global, problem: &Problem) -> Result<LeadTable, Fail>
     ensures { IfOk result (λ leads. leads ≡ lead_table problem.now) }
 {
@@ -239,7 +148,7 @@ fn calling(alloc: Global, steps: &[u8]) -> Result<Calling, Fail>
 
 // Whether a calling meets the query, and whether it is kept.
 fn judged(alloc: Global, draft: &Draft, steps: &[u8]) -> Result<(bool, bool), Fail> {
-    let problem = problem(alloc, draft)?;
+    let problem = problem_of(alloc, draft)?;
     let calling = calling(alloc, steps)?;
     if !problem.has_steps(calling.steps()) {
         return Err(Fail::from("the steps are the problem's"));
@@ -267,19 +176,19 @@ struct Touch(&'static str, Draft, &'static [u8], bool, bool);
 const TOUCHES: &[Touch] = &[
     Touch(
         "the least rotation",
-        DOUBLES,
+        OF_SIXTY,
         &[0, 1, 0, 1, 0, 1],
         true,
         true,
     ),
     Touch(
         "another rotation",
-        DOUBLES,
+        OF_SIXTY,
         &[1, 0, 1, 0, 1, 0],
         true,
         false,
     ),
-    Touch("too short", DOUBLES, &[1, 1], false, false),
+    Touch("too short", OF_SIXTY, &[1, 1], false, false),
     Touch(
         "a row is asked for that the least rotation lacks",
         ASKED,
@@ -376,7 +285,7 @@ fn course_has(alloc: Global, cells: &'static [Cell], number: i64) -> Result<bool
         length: (40, 40),
         cells,
         fitting: (number, number),
-        ..DOUBLES
+        ..OF_SIXTY
     };
     Ok(judged(alloc, &draft, &[0, 0, 0, 0])?.0)
 }
@@ -396,7 +305,7 @@ fn rows_that_fit(rt: HostRuntime) -> Result<(), Fail> {
 #[test]
 fn queries_that_turning_does_not_change(rt: HostRuntime) -> Result<(), Fail> {
     let alloc = rt.alloc();
-    assert!(rt; turn_free(&query_of(alloc, &DOUBLES)?));
+    assert!(rt; turn_free(&query_of(alloc, &OF_SIXTY)?));
     assert!(rt; turn_free(&query_of(alloc, &TWO_BOBS_IN_TWO_PARTS)?));
     assert!(rt; !turn_free(&query_of(alloc, &ASKED)?));
     assert!(rt; !turn_free(&query_of(alloc, &CHANGING_ONCE)?));
@@ -526,7 +435,7 @@ fn walked(
     step: u8,
     is_counted: bool,
 ) -> Result<(Told, Option<Hopeless>), Fail> {
-    let problem = problem(alloc, draft)?;
+    let problem = problem_of(alloc, draft)?;
     let leads = table(alloc, &problem)?;
     if !problem.has_steps(node) || step >= leads.count() || node.len() >= 1024 {
         return Err(Fail::from("the node is a short one of the problem"));
@@ -750,11 +659,11 @@ const BY_ROWS: &[(&str, Draft, &[u8], bool)] = &[
     ("a row of the second lead", NO_QUEENS, &[0, 0], true),
     ("as many rows are left", MANY_ROUNDS_BUT_ONE, &[0], false),
     ("one row too few is left", MANY_ROUNDS, &[0], true),
-    ("no pattern", DOUBLES, &[0, 0], false),
+    ("no pattern", OF_SIXTY, &[0, 0], false),
 ];
 
 fn is_hopeless_by_rows(alloc: Global, draft: &Draft, node: &[u8]) -> Result<bool, Fail> {
-    let problem = problem(alloc, draft)?;
+    let problem = problem_of(alloc, draft)?;
     let leads = table(alloc, &problem)?;
     if !problem.has_steps(node) || node.len() >= 1024 {
         return Err(Fail::from("the node is a short one of the problem"));

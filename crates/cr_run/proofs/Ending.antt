@@ -12,8 +12,8 @@ use Rattle.cr_board.specs.Jobs.{JobParts, OpeningParts, opening_nodes}
 use Rattle.cr_board.specs.Boards.{BoardParts, held_at, held_jobs, jobs_of, nodes_in, nodes_of}
 use Rattle.cr_board.specs.Partitions.{Partition, IsKept}
 use Rattle.cr_board.specs.declared.held.Held.{Held}
+use Rattle.cr_board.proofs.Once.{at_most_once}
 use Rattle.cr_run.specs.Runs.{IsRun, IsFinished, IsStopped, opening_size}
-use Rattle.cr_run.proofs.Once.{covers_once}
 use Rattle.cr_run.proofs.Playing.{BudgetIsKept, some_size, spent_within}
 
 -- where each place to hold a job is free, nobody holds one
@@ -51,7 +51,7 @@ finished_from b is none = record {
   spent = omega (arith, is.partition.nodes.size, nothing);
   kept = is.partition.nodes.kept;
   each = each;
-  once = λ calling kept. omega (arith, each calling kept, covers_once b.opening is.opening calling);
+  once = λ calling kept. omega (arith, each calling kept, at_most_once b.opening.problem b.opening.found (opening_nodes b.opening) is.opening.ascending is.opening.independent calling);
 }
   where
     nodes : nodes_of b ≡ []

@@ -1,5 +1,2 @@
 pub mod Playing
-pub mod Once
 pub mod Ending
-pub mod Hunting
-pub mod Ones

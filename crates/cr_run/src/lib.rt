@@ -20,12 +20,8 @@
 #![tactic(auto)]
 
 mod alone;
-#[cfg(test)]
-mod hunter;
 pub mod laws;
 mod seats;
-#[cfg(test)]
-mod tests;
 mod workers;
 
 pub use alone::run_alone;

@@ -68,7 +68,7 @@ fn together<R: Threads + Wait + Sync, E: Explorer + Sync>(
 }
 
 // The same at a desk of one ledger.
-#[tactic(auto, using(crate::proofs::Ones::sum_of_ones))]
+#[tactic(auto, using(cr_desk::proofs::Ones::sum_of_ones))]
 fn at_desk<L: Ledger + Send + Sync, R: Threads + Wait + Sync, E: Explorer + Sync>(
     rt: &R,
     alloc: Global,

@@ -11,3 +11,7 @@ pub mod JoinedFacts
 pub mod JoinChecks
 pub mod RoundTrip
 pub mod OneJoin
+pub mod Sorting
+pub mod SomeBlock
+pub mod SomeJoin
+pub mod OtherForms

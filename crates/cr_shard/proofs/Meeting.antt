@@ -1,10 +1,10 @@
 -- Items in order: where any two meet, some one clashes with the next.
-use Rattle.std.proofs.Common.{◌≡◌, ℕ, ◌+◌, ◌<◌, ◌≤◌, ◌↔◌, ◌⊎◌, Bool, true, false, not, ◌&&◌, ◌||◌, nat_eq, List, [], ◌∷◌, length, get_or, map, inl, inr, refl, sym, ap, ap₂, ◌∙◌, subst, arith}
+use Rattle.std.proofs.Common.{◌≡◌, ℕ, ◌+◌, ◌<◌, ◌≤◌, ◌↔◌, ◌⊎◌, Bool, true, false, not, ◌&&◌, ◌||◌, nat_eq, List, [], ◌∷◌, length, get_or, inl, inr, refl, sym, ap, ap₂, ◌∙◌, arith}
 use Rattle.std.specs.Cmp.{IsTotalOrder, bool_cmp_total}
 use Rattle.std.specs.Cmp.Lexicographic.{slice_cmp, pointwise}
-use Rattle.std.specs.List.{IsDistinct, starts_with}
+use Rattle.std.specs.List.{starts_with}
 use Rattle.std.specs.List.Sorted.{IsPermutation, IsSortedBy}
-use Rattle.std.specs.Ordering.{nat_cmp, bool_cmp, ordering_then, is_lt, on}
+use Rattle.std.specs.Ordering.{nat_cmp, bool_cmp, ordering_then, is_lt}
 use Rattle.std.specs.declared.cmp.Ordering.{Ordering}
 use Rattle.std.specs.declared.cmp.Ordering.TheVariants.{Less, Equal, Greater}
 use Rattle.std.proofs.lemmas.Bool.{true≢false, and_parts, and_from, or_cases, or_parts, or_left, or_right, false_from_ne_true}
@@ -15,7 +15,8 @@ use Rattle.std.proofs.lemmas.Map.Keys.{IsDistinct-from_apart, IsDistinct-IsPermu
 use Rattle.std.proofs.lemmas.Slice.Eq.{bytes_eq-Decides}
 use Rattle.cr_model.specs.Nodes.{is_prefix}
 use Rattle.cr_node.specs.Overlaps.{Item, of_node, item_at}
-use Rattle.cr_node.proofs.Order.{prefix_test, between, same_word, begins_itself}
+use Rattle.cr_model.proofs.Prefixes.{begins_itself}
+use Rattle.cr_node.proofs.Order.{prefix_test, between, same_word}
 use Rattle.cr_node.proofs.Sorted.{item_cmp}
 use Rattle.cr_shard.specs.declared.words.Word.{Word}
 use Rattle.cr_shard.specs.Reads.{clashes, meet, item_of, items_of, NoneMeet, NoneClashNext}

@@ -15,9 +15,9 @@ use Rattle.cr_model.specs.Inputs.{Input, SameCover}
 use Rattle.cr_store.specs.Chains.{AreSame}
 use Rattle.cr_store.specs.Progress.{Progress}
 use Rattle.cr_shard.specs.Deals.{dealt_found, dealt_nodes, as_jobs, shard_text, IsDealt}
-use Rattle.cr_shard.specs.Joins.{IsRead, AreRead, AreOfOne, IsJoinedOf, all_jobs, nodes_of}
+use Rattle.cr_shard.specs.Joins.{IsRead, AreRead, AreOfOne, IsJoinedOf, NoneOverlap, all_jobs, nodes_of}
 use Rattle.cr_shard.proofs.Shards.{nodes_as_jobs, shard_is_checkpoint, shard_covers, covered_once}
-use Rattle.cr_shard.proofs.JoinedFacts.{read_many, covered_by_some}
+use Rattle.cr_shard.proofs.JoinedFacts.{read_many, covered_by_some, joined_covers}
 
 -- what the laws on inputs and checkpoints say
 abbrev pub PartsAlone : Type 0
@@ -63,6 +63,9 @@ module _ (alone : PartsAlone) (begins : BeginAsSuch) where
     same_problem : p ≡ c.problem
     same_problem = one.problem_is ∙ sym two.problem_is
 
+    same_file : bytes ≡ c.bytes
+    same_file = one.bytes_are ∙ sym two.bytes_are
+
     same_covers : (calling : List ℕ) → Covers p found (nodes_of_jobs jobs) calling ↔ Covers c.problem c.found (nodes_of c) calling
     same_covers calling = (
       λ covers. moved cover.p c.problem cover.other_found c.found cover.other_nodes (nodes_of c) calling (sym two.problem_is) (sym two.found_are) (sym two.nodes_are)
@@ -98,6 +101,10 @@ module _ (alone : PartsAlone) (begins : BeginAsSuch) where
       part_problem = same_problem (get_or shards j []) (get_or bodies k []) cover at_shard at_body bytes p (dealt_found j found)
           (as_jobs (dealt_nodes into j (nodes_of_jobs jobs))) shard_file (get_or parts k d) (read_body bodies parts k d read inside) ∙ (is.of_one k d inside).1
 
+      part_file : bytes ≡ others
+      part_file = same_file (get_or shards j []) (get_or bodies k []) cover at_shard at_body bytes p (dealt_found j found)
+          (as_jobs (dealt_nodes into j (nodes_of_jobs jobs))) shard_file (get_or parts k d) (read_body bodies parts k d read inside) ∙ (is.of_one k d inside).0
+
       part_covers : (calling : List ℕ) → Covers p (dealt_found j found) (dealt_nodes into j (nodes_of_jobs jobs)) calling
           ↔ Covers q (get_or parts k d).found (nodes_of (get_or parts k d)) calling
       part_covers calling =
@@ -130,6 +137,9 @@ module _ (alone : PartsAlone) (begins : BeginAsSuch) where
     pub one_problem : p ≡ q
     one_problem = let at = body_of 0 some in part_problem 0 at.0 blank some at.1 at.2
 
+    one_file : bytes ≡ others
+    one_file = let at = body_of 0 some in part_file 0 at.0 blank some at.1 at.2
+
     pub whole_covers : (calling : List ℕ) → Covers p found (nodes_of_jobs jobs) calling ↔ Covers q is.found (nodes_of_jobs (all_jobs parts)) calling
     whole_covers calling = (
       λ h.
@@ -141,6 +151,34 @@ module _ (alone : PartsAlone) (begins : BeginAsSuch) where
           let at = shard_of one.0 one.1 in
           shard_covers p found (nodes_of_jobs jobs) into at.0 calling ((part_covers at.0 one.0 blank at.1 one.1 at.2 calling).1 (one.2 blank)),
     )
+
+    -- what is joined covers what the whole covered
+    module _ (input : List ℕ) (whole : Input input bytes p found (nodes_of_jobs jobs)) (apart : NoneOverlap q parts) where
+      joined_file : CheckFile joined others q is.found (all_jobs parts)
+      joined_file =
+          let at = body_of 0 some in
+          joined_covers bodies parts others q joined (omega (arith, at.1, read_many bodies parts read)) read apart is
+
+      joined_input : Input joined bytes p is.found (nodes_of_jobs (all_jobs parts))
+      joined_input = input_of joined bytes p is.found (all_jobs parts)
+          (subst (λ (r : ProblemParts). CheckFile joined bytes r is.found (all_jobs parts)) (sym one_problem)
+          (subst (λ (b : List ℕ). CheckFile joined b q is.found (all_jobs parts)) (sym one_file) joined_file))
+
+      pub joined_same : SameCover input joined
+      joined_same = record {
+        bytes = bytes;
+        p = p;
+        found = found;
+        nodes = nodes_of_jobs jobs;
+        other_found = is.found;
+        other_nodes = nodes_of_jobs (all_jobs parts);
+        input = whole;
+        other_input = joined_input;
+        covers = λ calling. (
+          λ h. subst (λ (r : ProblemParts). Covers r is.found (nodes_of_jobs (all_jobs parts)) calling) (sym one_problem) ((whole_covers calling).0 h),
+          λ h. (whole_covers calling).1 (subst (λ (r : ProblemParts). Covers r is.found (nodes_of_jobs (all_jobs parts)) calling) one_problem h),
+        );
+      }
 
     pub same_book : OneBook → (book other : List (List ℕ)) → IsBook p found (nodes_of_jobs jobs) book → IsBook q is.found (nodes_of_jobs (all_jobs parts)) other → book ≡ other
     same_book unique book other one two = unique q is.found (nodes_of_jobs (all_jobs parts)) book other

@@ -1,5 +1,5 @@
 -- Shards of one search: each is a checkpoint, and they cover together what the search covers, each calling once.
-use Rattle.std.proofs.Common.{◌≡◌, ◌≢◌, ℕ, ◌+◌, ◌%◌, ◌<◌, ◌⊎◌, Bool, true, false, cond, nat_eq, List, [], ◌∷◌, ◌++◌, length, get_or, inl, inr, refl, sym, ap, ap₂, ◌∙◌, subst, arith, append-nil}
+use Rattle.std.proofs.Common.{◌≡◌, ◌≢◌, ℕ, ◌+◌, ◌%◌, ◌<◌, Bool, true, false, cond, nat_eq, List, [], ◌∷◌, length, get_or, inl, inr, refl, sym, ap, ap₂, ◌∙◌, subst, arith, append-nil}
 use Rattle.std.specs.Prelude.{Contains, All}
 use Rattle.std.specs.List.Sorted.{IsStrictlySortedBy}
 use Rattle.std.proofs.lemmas.Bool.{true≢false, eqb-true, cases_eq}
@@ -13,9 +13,9 @@ use Rattle.cr_model.specs.Books.{book_order}
 use Rattle.cr_model.specs.Checkpoints.{CanGoOn, CheckFile, nodes_of_jobs}
 use Rattle.cr_model.specs.ProblemFiles.{ProblemFile}
 use Rattle.cr_model.proofs.InOrder.{none_held}
-use Rattle.cr_node.proofs.Order.{comparable}
+use Rattle.cr_model.proofs.Prefixes.{one_begins}
 use Rattle.cr_shard.specs.Deals.{dealt_found, dealt_nodes, as_jobs, shard_text}
-use Rattle.cr_shard.proofs.Dealing.{Stands, dealt_stands, stands_dealt, dealt_all, dealt_apart}
+use Rattle.cr_shard.proofs.Dealing.{dealt_stands, stands_dealt, dealt_all, dealt_apart}
 use Rattle.cr_shard.proofs.Apart.{alike, nodes_distinct, none_above, independent_from, above_none}
 
 -- the nodes of one job are its nodes
@@ -95,7 +95,7 @@ module _ (p : ProblemParts) (found nodes : List (List ℕ)) (into : ℕ) where
           let first : get_or nodes i [] ≡ node = get_or_default nodes i [] node inside ∙ is in
           let second : get_or nodes k [] ≡ other = get_or_default nodes k [] other within ∙ are in
           let turned : k ≢ i = λ same. differ (sym same) in
-          elim (comparable node other (part_of p calling) one two) [
+          elim (one_begins node other (part_of p calling) one two) [
             | inl begins ↦ absurd (true≢false (sym begins ∙ ap₂ is_prefix (sym first) (sym second) ∙ independent.nodes_apart i k inside within differ))
             | inr begins ↦ absurd (true≢false (sym begins ∙ ap₂ is_prefix (sym second) (sym first) ∙ independent.nodes_apart k i within inside turned))
           ]

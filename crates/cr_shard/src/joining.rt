@@ -1,6 +1,8 @@
 //! Shards written as one checkpoint.
 
 ghost use Rattle.std.specs.Prelude.{◌≡◌, ◌++◌, IfOk};
+ghost use Rattle.std.specs.List.Sorted.{IsPermutation, IsSorted};
+ghost use Rattle.cr_model.specs.Books.{book_order};
 ghost use Rattle.cr_model.specs.ProblemFiles.{ProblemFile};
 ghost use Rattle.cr_store.specs.Written.{lists};
 ghost use Rattle.cr_shard.specs.Joins.{AreOfOne, IsJoinedOf, NoneOverlap, all_found, all_jobs};
@@ -28,11 +30,25 @@ pub fn join_shards(
     requires apart { NoneOverlap problem.now shards.now }
     ensures { IfOk result (λ text. IsJoinedOf shards.now problem_bytes.now problem.now text.items) }
 {
-    let found = copy_found(alloc, shards)?;
-    let found = sort_found(alloc, problem, found)?;
+    let found = found_in_order(alloc, problem, shards)?;
     let jobs = copy_jobs(alloc, shards)?;
     let text = write_parts(alloc, problem, problem_bytes, &found, &jobs)?;
     Ok(text)
+}
+
+// What all shards found, in the book's order.
+fn found_in_order(
+    alloc: Global,
+    problem: &Problem,
+    shards: &[Checkpoint],
+) -> Result<Vec<Calling>, NoMemory>
+    requires { CanMeet problem.now shards.now }
+    ensures same { IfOk result (λ found. IsPermutation (all_found shards.now) found.items) }
+    ensures ascending { IfOk result (λ found. IsSorted (book_order problem.now) found.items) }
+{
+    let found = copy_found(alloc, shards)?;
+    let sorted = sort_found(alloc, problem, found)?;
+    Ok(sorted)
 }
 
 // What all shards found, shard by shard.

@@ -1,25 +1,30 @@
 //! Laws of shards. Each is the contract of a function that does nothing.
 
-ghost use Rattle.std.specs.Prelude.{◌≡◌, ◌↔◌, ℕ, ◌^◌, ◌<◌, List, [], length, get_or, All};
+ghost use Rattle.std.specs.Prelude.{◌≡◌, ◌⊎◌, ◌↔◌, ℕ, ◌^◌, ◌<◌, List, [], length, get_or, take, All};
 ghost use Rattle.std.specs.List.{AllZip};
 ghost use Rattle.std.specs.List.Sorted.{IsPermutation};
 ghost use Rattle.cr_model.specs.Problems.{ProblemParts};
 ghost use Rattle.cr_model.specs.Nodes.{Covers};
 ghost use Rattle.cr_model.specs.ProblemFiles.{ProblemFile};
 ghost use Rattle.cr_model.specs.Books.{IsBook};
-ghost use Rattle.cr_model.specs.Checkpoints.{CanGoOn, CheckFile, checkpoint_text, nodes_of_jobs};
-ghost use Rattle.cr_model.specs.Inputs.{SameCover};
+ghost use Rattle.cr_model.specs.Checkpoints.{CanGoOn, CheckFile, IsCheckpoint, checkpoint_text, nodes_of_jobs};
+ghost use Rattle.cr_model.specs.Inputs.{Input, SameCover};
 ghost use Rattle.cr_store.specs.Progress.{Progress};
 ghost use Rattle.cr_shard.specs.Joins.{AreRead, IsJoinedOf, NoneOverlap, all_jobs, nodes_of};
-ghost use Rattle.cr_shard.specs.JoinFaults.{IsJoin, FirstJoinFault};
+ghost use Rattle.cr_shard.specs.JoinFaults.{HasBodies, IsJoin, FirstJoinFault};
 ghost use Rattle.cr_shard.specs.declared.fault.JoinFault.{JoinFault};
+ghost use Rattle.cr_shard.specs.declared.fault.JoinFault.TheVariants as fault;
+ghost use Rattle.cr_store.specs.declared.fault.CheckFault.TheVariants as check;
 ghost use Rattle.cr_shard.specs.Deals.{dealt_found, dealt_nodes, as_jobs, shard_text, IsDealt};
 
 use cr_model::laws::book_is_unique;
+use cr_read::bytes_have_one_answer as one_answer_of_a_file;
 use cr_store::block_laws::each_place_has_one_answer;
 use cr_store::laws::{
-    an_input_has_its_parts_alone, bytes_have_one_answer, checkpoints_begin_as_such,
+    an_input_has_its_parts_alone, bytes_are_a_checkpoint_or_have_a_fault, bytes_have_one_answer,
+    checkpoints_begin_as_such,
 };
+use cr_store::shape_laws::shapes_by_example;
 
 /// Each shard of a search is a checkpoint, from which a search can go on.
 pub fn shards_are_checkpoints()
@@ -75,12 +80,38 @@ pub fn a_search_in_shards_has_its_book()
     book_is_unique();
 }
 
-/// A text of blocks is joined to one text at most, it has one first fault at most, and never both.
+/// Cut, search each shard, join: what is joined is a checkpoint that covers what the whole covered, however far each shard
+/// was searched and however often it was stopped.
+pub fn what_is_joined_covers_what_was_cut()
+    ensures { (p : ProblemParts) (bytes : List ℕ) (found : List (List ℕ)) (jobs : List (List (List ℕ))) (into : ℕ) (shards searched bodies : List (List ℕ))
+        (parts : List Progress) (q : ProblemParts) (others joined : List ℕ) → ProblemFile bytes p → CanGoOn p found jobs → 0 < into
+        → IsDealt p bytes found jobs into shards → AllZip SameCover shards searched → IsPermutation searched bodies
+        → All (λ text. length text < 2 ^ 63) shards → All (λ text. length text < 2 ^ 63) bodies
+        → AreRead bodies parts → IsJoinedOf parts others q joined
+        → (input : List ℕ) → Input input bytes p found (nodes_of_jobs jobs) → NoneOverlap q parts → SameCover input joined }
+{
+    an_input_has_its_parts_alone();
+    checkpoints_begin_as_such();
+}
+
+/// A body that does not begin as a checkpoint, behind some that are checkpoints, is told with its number, and as one whose
+/// first line is wrong.
+pub fn what_begins_otherwise_is_no_checkpoint()
+    ensures { (text : List ℕ) (bodies : List (List ℕ)) (i : ℕ) (before : List Progress) → HasBodies text bodies → i < length bodies
+        → AreRead (take i bodies) before → (IsCheckpoint (get_or bodies i []) → ⊥) → FirstJoinFault text (fault.Check i (check.Form 1)) }
+{
+    shapes_by_example();
+}
+
+/// Each text is joined or has a first fault: it is joined to one text, or has one first fault, and never both.
 pub fn texts_have_one_answer()
+    ensures some { (text : List ℕ) → ((joined : List ℕ) × IsJoin text joined) ⊎ ((why : JoinFault) × FirstJoinFault text why) }
     ensures one_text { (text joined other : List ℕ) → IsJoin text joined → IsJoin text other → joined ≡ other }
     ensures one_fault { (text : List ℕ) (why other : JoinFault) → FirstJoinFault text why → FirstJoinFault text other → why ≡ other }
     ensures never_both { (text joined : List ℕ) (why : JoinFault) → IsJoin text joined → FirstJoinFault text why → ⊥ }
 {
     each_place_has_one_answer();
     bytes_have_one_answer();
+    bytes_are_a_checkpoint_or_have_a_fault();
+    one_answer_of_a_file();
 }

@@ -1,17 +1,15 @@
 -- How the line before a body is read.
-use Rattle.std.proofs.Common.{◌≡◌, ℕ, zero, suc, ◌+◌, ◌-◌, ◌^◌, ◌<◌, ◌≤◌, ◌⊎◌, inl, inr, List, [], ◌∷◌, ◌++◌, length, get_or, take, drop, replicate, decimal, refl, sym, ap, ap₂, ◌∙◌, subst, rules, arith}
+use Rattle.std.proofs.Common.{◌≡◌, ℕ, ◌+◌, ◌-◌, ◌<◌, ◌≤◌, ◌⊎◌, inl, inr, List, [], ◌∷◌, ◌++◌, length, get_or, take, drop, replicate, decimal, refl, sym, ap, ap₂, ◌∙◌, subst, arith}
 use Rattle.std.proofs.Common.{length-append, append_assoc}
-use Rattle.std.specs.Prelude.{codes}
 use Rattle.std.proofs.lemmas.Bool.{cases_lt}
-use Rattle.std.proofs.lemmas.List.{take-append-drop, take-append-le, length-take-le, length-drop, get_or-take, append_cancel_left, length-replicate, get_or_append_left, get_or-drop, take_more, take_all}
-use Rattle.std.proofs.Math.Seq.{get_or-append_right, get_or-append_seam, take-add}
+use Rattle.std.proofs.lemmas.List.{take-append-le, length-take-le, length-drop, get_or-take, append_cancel_left, length-replicate, get_or_append_left, get_or-drop, take_more, take_all}
+use Rattle.std.proofs.Math.Seq.{get_or-append_seam, take-add}
 use Rattle.std.proofs.lemmas.Str.Parse.{digit_at}
 use Rattle.std.proofs.lemmas.Fmt.{decimal_nonempty, digits_decimal}
-use Rattle.cr_model.specs.Checkpoints.{number_line}
-use Rattle.cr_store.specs.ShapeSteps.{NoneTells}
+use Rattle.cr_model.specs.Texts.{NoneTells}
+use Rattle.cr_model.proofs.Numerals.{own}
 use Rattle.cr_store.specs.Blocks.{block, IsSize, IsFront, IsTorn, IsHead, Sizing}
 use Rattle.cr_store.specs.declared.blocks.Head.TheVariants as head
-use Rattle.cr_store.proofs.ShapeNumbers.{own}
 use Rattle.cr_store.proofs.BlockSizes.{word, block_is, cut_torn, front_of_size}
 
 abbrev one : List ℕ

@@ -1,17 +1,17 @@
 -- Texts of blocks are read in one way.
-use Rattle.std.proofs.Common.{◌≡◌, ℕ, zero, suc, ◌+◌, ◌-◌, ◌<◌, ◌≤◌, ◌⊎◌, inl, inr, List, [], ◌∷◌, ◌++◌, length, take, drop, decimal, refl, sym, ap, ap₂, ◌∙◌, subst, arith}
+use Rattle.std.proofs.Common.{◌≡◌, ℕ, suc, ◌+◌, ◌-◌, ◌<◌, ◌≤◌, inl, inr, List, [], ◌∷◌, ◌++◌, length, take, drop, decimal, refl, sym, ap, ap₂, ◌∙◌, subst, arith}
 use Rattle.std.proofs.Common.{length-append, append_assoc, append-nil}
-use Rattle.std.specs.Prelude.{codes, All, flat_map}
+use Rattle.std.specs.Prelude.{codes, All}
 use Rattle.std.proofs.lemmas.Bool.{cases_lt}
 use Rattle.std.proofs.lemmas.List.{take-append-drop, take-append-le, length-take-le, length-drop, append_cancel_left, take-take}
 use Rattle.std.proofs.lemmas.Fmt.{decimal_injective}
 use Rattle.std.proofs.Math.Seq.{take-append_seam, take-append-add, take-nil}
 use Rattle.cr_model.specs.Checkpoints.{number_line}
-use Rattle.cr_store.specs.Blocks.{block, blocks, IsSize, IsBody, IsFront, IsTorn, Begins, IsNext, IsCutAt}
+use Rattle.cr_model.proofs.Bytes.{cut}
+use Rattle.cr_model.proofs.Lacking.{number_lacks}
+use Rattle.cr_store.specs.Blocks.{block, blocks, IsBody, IsFront, IsTorn, Begins, IsNext, IsCutAt}
 use Rattle.cr_store.specs.declared.blocks.Next.{Next}
 use Rattle.cr_store.specs.declared.blocks.Next.TheVariants as next
-use Rattle.cr_store.proofs.ShapeBytes.{cut}
-use Rattle.cr_store.proofs.ShapeBodies.{number_lacks}
 use Rattle.cr_store.proofs.BlockSizes.{word, block_is, cut_torn}
 
 -- two texts that begin with blocks have one body, and one rest

@@ -17,7 +17,7 @@ use Rattle.cr_store.specs.Shapes.{FoundParts, NodeParts}
 use Rattle.cr_query.specs.Meeting.{HasParts}
 use Rattle.cr_store.specs.Lines.{left_out, IsTouchOf, IsNodeOf}
 use Rattle.cr_store.specs.Reading.{IsStepsText}
-use Rattle.cr_store.proofs.Words.{repeats_first}
+use Rattle.cr_model.proofs.Parts.{repeats_first}
 use Rattle.cr_store.proofs.StepTexts.{OneCalling, node_is, node_told, node_made, low_shared}
 
 -- it is so, or it is not

@@ -1,12 +1,10 @@
 pub mod Shortness
-pub mod Words
 pub mod StepTexts
 pub mod LineReads
 pub mod ReadUpTo
 pub mod Printing
 pub mod Accepting
 pub mod Printed
-pub mod Exact
 pub mod OneAnswer
 pub mod Inputs
 pub mod FaultKinds
@@ -22,7 +20,6 @@ pub mod LineCount
 pub mod OneTold
 pub mod LinesStand
 pub mod ShapeBytes
-pub mod ShapeNumbers
 pub mod BlockSizes
 pub mod BlockHeads
 pub mod BlockPlaces
@@ -34,3 +31,4 @@ pub mod ShapeStops
 pub mod ShapeWhole
 pub mod ShapeLaws
 pub mod ShapeDecided
+pub mod Pieces

@@ -5,7 +5,8 @@ use Rattle.std.proofs.lemmas.List.{drop_more, length-take, get_or_append_left, g
 use Rattle.std.proofs.lemmas.List.Concat.{flat_map-append}
 use Rattle.std.proofs.lemmas.List.Elements.{All-head, All-tail, All-take}
 use Rattle.cr_model.specs.Checkpoints.{number_line}
-use Rattle.cr_store.specs.Shapes.{FoundParts, NodeParts, ShapeParts, IsNumber, IsFoundLine, IsNodeLine, IsJobLines, IsShape, found_text, node_text, job_text, HasShape, line_feeds, found_line}
+use Rattle.cr_model.specs.Texts.{IsNumber}
+use Rattle.cr_store.specs.Shapes.{FoundParts, NodeParts, ShapeParts, IsFoundLine, IsNodeLine, IsJobLines, IsShape, found_text, node_text, job_text, HasShape, line_feeds, found_line}
 use Rattle.cr_store.specs.Lines.{node_lines_of, node_numbers, line_of, StandsOn}
 use Rattle.cr_store.specs.Reading.{touch_line_at, node_line_at}
 use Rattle.cr_store.proofs.ShapeBytes.{feeds_joined, feeds_lacking}

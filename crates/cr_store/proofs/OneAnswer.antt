@@ -18,7 +18,7 @@ use Rattle.cr_store.specs.Faults.{IsShortNode, IsKeptAt, Follows, overlap_check,
 use Rattle.cr_store.specs.Progress.{Progress}
 use Rattle.cr_store.proofs.StepTexts.{OneCalling}
 use Rattle.cr_store.proofs.ReadUpTo.{one_items, each_can_be_read}
-use Rattle.cr_store.proofs.Exact.{IsExact, AreExact, one_first, exact_each_index, none_fails, one_failure}
+use Rattle.cr_model.proofs.FirstFailure.{IsExact, AreExact, one_first, exact_each_index, none_fails, one_failure}
 use Rattle.cr_store.proofs.Printed.{IsPrinted, printed_as}
 
 -- the laws that this rests on

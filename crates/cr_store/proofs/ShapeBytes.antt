@@ -1,11 +1,12 @@
--- Texts cut at a byte, and the line feeds in them.
+-- The line feeds in texts.
 use Rattle.std.proofs.Common.{◌≡◌, ℕ, ◌+◌, ◌<◌, false, cond, nat_eq, List, [], ◌∷◌, ◌++◌, length, get_or, take, drop, refl, sym, ap, ◌∙◌, arith}
 use Rattle.std.specs.List.{list_any}
 use Rattle.std.proofs.lemmas.Bool.{or_parts, eqb-false}
 use Rattle.std.proofs.lemmas.List.{take_at, drop_at}
 use Rattle.std.proofs.lemmas.List.Sums.{sum_by-append, sum_by-cons}
+use Rattle.cr_model.proofs.Bytes.{lacks_rest}
+use Rattle.cr_model.specs.Texts.{Lacks}
 use Rattle.cr_store.specs.Shapes.{line_feeds}
-use Rattle.cr_store.specs.ShapeSteps.{Lacks}
 
 pub feeds_joined : (a b : List ℕ) → line_feeds (a ++ b) ≡ line_feeds a + line_feeds b
 feeds_joined a b = sum_by-append (λ x. cond (nat_eq 10 x) 1 0) a b
@@ -21,37 +22,6 @@ feeds_lacking (x ∷ text) lacks =
     let one : cond {A = ℕ} (nat_eq 10 x) 1 0 ≡ 0 = ap (λ b. cond {A = ℕ} b 1 0) here in
     omega (arith, feeds_more x text, feeds_lacking text later)
 
--- a byte that the text lacks is not its first
-not_first : (byte x : ℕ) (text : List ℕ) → Lacks byte (x ∷ text) → byte ≡ x → ⊥
-not_first byte x text lacks = eqb-false byte x (or_parts (nat_eq byte x) (list_any (nat_eq byte) text) lacks).0
-
-pub lacks_rest : (byte x : ℕ) (text : List ℕ) → Lacks byte (x ∷ text) → Lacks byte text
-lacks_rest byte x text lacks = (or_parts (nat_eq byte x) (list_any (nat_eq byte) text) lacks).1
-
--- the first of a list that is not empty, and its others
-heads : (x y : ℕ) (xs ys : List ℕ) → x ∷ xs ≡ y ∷ ys → x ≡ y
-heads x y xs ys same = ap (λ l. get_or l 0 0) same
-
-tails : (x y : ℕ) (xs ys : List ℕ) → x ∷ xs ≡ y ∷ ys → xs ≡ ys
-tails x y xs ys same = ap (drop 1) same
-
--- texts are cut in one way at the first such byte
-pub cut : (byte : ℕ) (a b x y : List ℕ) → Lacks byte a → Lacks byte b → a ++ byte ∷ x ≡ b ++ byte ∷ y → (a ≡ b) × (x ≡ y)
-cut byte [] [] x y lacks also same = (refl, tails byte byte x y same)
-cut byte [] (d ∷ b) x y lacks also same = absurd (not_first byte d b also (heads byte d x (b ++ byte ∷ y) same))
-cut byte (c ∷ a) [] x y lacks also same = absurd (not_first byte c a lacks (sym (heads c byte (a ++ byte ∷ x) y same)))
-cut byte (c ∷ a) (d ∷ b) x y lacks also same =
-    let later = cut byte a b x y (lacks_rest byte c a lacks) (lacks_rest byte d b also) (tails c d (a ++ byte ∷ x) (b ++ byte ∷ y) same) in
-    let first : c ≡ d = heads c d (a ++ byte ∷ x) (b ++ byte ∷ y) same in
-    (cc, later.1)
-
--- a text that lacks the byte has no such part
-pub uncut : (byte : ℕ) (a x text : List ℕ) → Lacks byte text → text ≡ a ++ byte ∷ x → ⊥
-uncut byte [] x [] lacks same = let some : 0 ≡ length (byte ∷ x) = ap length same in absurd (omega arith)
-uncut byte [] x (y ∷ text) lacks same = not_first byte y text lacks (sym (heads y byte text x same))
-uncut byte (c ∷ a) x [] lacks same = let some : 0 ≡ length (c ∷ a ++ byte ∷ x) = ap length same in absurd (omega arith)
-uncut byte (c ∷ a) x (y ∷ text) lacks same = uncut byte a x text (lacks_rest byte y text lacks) (tails y c text (a ++ byte ∷ x) same)
-
 -- what a text has after a front, where what comes after both is known
 pub record Past (front text rest others : List ℕ) : Type 0 where
   pub part : List ℕ
@@ -63,22 +33,22 @@ pub goes_past : (front rest upto others : List ℕ) → front ++ rest ≡ upto +
 goes_past [] rest upto others same fewer = record { part = upto; is = refl; rest_is = same }
 goes_past (c ∷ front) rest [] others same fewer = absurd (omega (arith, feeds_more c front))
 goes_past (c ∷ front) rest (d ∷ upto) others same fewer =
-    let first : c ≡ d = heads c d (front ++ rest) (upto ++ others) same in
+    let first : c ≡ d = ap (λ l. get_or l 0 0) same in
     let one : cond {A = ℕ} (nat_eq 10 c) 1 0 ≡ cond {A = ℕ} (nat_eq 10 d) 1 0 = ap (λ n. cond {A = ℕ} (nat_eq 10 n) 1 0) first in
-    let later = goes_past front rest upto others (tails c d (front ++ rest) (upto ++ others) same) (omega (arith, feeds_more c front, feeds_more d upto)) in
+    let later = goes_past front rest upto others (ap (drop 1) same) (omega (arith, feeds_more c front, feeds_more d upto)) in
     record { part = later.part; is = let e : upto ≡ front ++ later.part = later.is in cc; rest_is = later.rest_is }
 
 -- a text with a line feed that begins as a line does has the whole line
 pub whole_line : (line upto more rest : List ℕ) → Lacks 10 line → upto ++ more ≡ line ++ 10 ∷ rest → 0 < line_feeds upto → (part : List ℕ) × (upto ≡ line ++ 10 ∷ part)
 whole_line line [] more rest lacks same some = absurd (omega arith)
 whole_line [] (d ∷ upto) more rest lacks same some =
-    let first : d ≡ 10 = heads d 10 (upto ++ more) rest same in
+    let first : d ≡ 10 = ap (λ l. get_or l 0 0) same in
     (upto, ap (λ n. n ∷ upto) first)
 whole_line (c ∷ line) (d ∷ upto) more rest lacks same some =
-    let first : d ≡ c = heads d c (upto ++ more) (line ++ 10 ∷ rest) same in
+    let first : d ≡ c = ap (λ l. get_or l 0 0) same in
     let (here, _) = or_parts (nat_eq 10 c) (list_any (nat_eq 10) line) lacks in
     let none : cond {A = ℕ} (nat_eq 10 d) 1 0 ≡ 0 = ap (λ n. cond {A = ℕ} (nat_eq 10 n) 1 0) first ∙ ap (λ b. cond {A = ℕ} b 1 0) here in
-    let later = whole_line line upto more rest (lacks_rest 10 c line lacks) (tails d c (upto ++ more) (line ++ 10 ∷ rest) same) (omega (arith, feeds_more d upto)) in
+    let later = whole_line line upto more rest (lacks_rest 10 c line lacks) (ap (drop 1) same) (omega (arith, feeds_more d upto)) in
     (later.0, let e : upto ≡ line ++ 10 ∷ later.0 = later.1 in cc)
 
 -- fronts of one length

@@ -6,10 +6,12 @@ use Rattle.std.proofs.lemmas.List.Concat.{flat_map-append}
 use Rattle.std.proofs.lemmas.List.Elements.{All-head, All-tail, All-push}
 use Rattle.std.proofs.lemmas.Fmt.{decimal_injective}
 use Rattle.cr_model.specs.Checkpoints.{number_line}
-use Rattle.cr_store.specs.Shapes.{FoundParts, NodeParts, IsNumber, IsFoundLine, IsNodeLine, found_text, node_text}
-use Rattle.cr_store.specs.ShapeSteps.{Lacks, NoneBegins, AreRead, named, found_body, node_body}
-use Rattle.cr_store.proofs.ShapeBytes.{cut}
-use Rattle.cr_store.proofs.ShapeBodies.{named_lacks, found_lacks, node_lacks, node_ends, number_lacks}
+use Rattle.cr_model.specs.Texts.{IsNumber, Lacks, named}
+use Rattle.cr_model.proofs.Bytes.{cut}
+use Rattle.cr_model.proofs.Lacking.{number_lacks}
+use Rattle.cr_store.specs.Shapes.{FoundParts, NodeParts, IsFoundLine, IsNodeLine, found_text, node_text}
+use Rattle.cr_store.specs.ShapeSteps.{NoneBegins, AreRead, found_body, node_body}
+use Rattle.cr_store.proofs.ShapeBodies.{named_lacks, found_lacks, node_lacks, node_ends}
 
 -- of texts that begin alike the values are one, and what comes after them
 pub record IsCode {V : Type 0} (text : V → List ℕ) (Known : V → Type 0) : Type 0 where

@@ -7,14 +7,16 @@ use Rattle.std.proofs.lemmas.Bool.{cases_lt, cases_eq, cases_Bool, both_ways, eq
 use Rattle.std.proofs.lemmas.List.{take_at, length-take-le}
 use Rattle.std.proofs.lemmas.Slice.Eq.{bytes_eq-Decides}
 use Rattle.cr_model.specs.Checkpoints.{number_line}
+use Rattle.cr_model.specs.Texts.{IsNumber, Lacks, NoneTells, named}
+use Rattle.cr_model.proofs.Numerals.{value_of_number}
+use Rattle.cr_model.proofs.Bytes.{uncut}
+use Rattle.cr_model.proofs.Lacking.{no_number}
 use Rattle.cr_store.specs.declared.shape_stop.Stop.TheVariants as stop
-use Rattle.cr_store.specs.Shapes.{ShapeParts, IsNumber, is_letter, AreLetters, AreSteps, IsFoundLine, IsNodeLine, HasShape, found_text, node_text, line_feeds}
+use Rattle.cr_store.specs.Shapes.{ShapeParts, is_letter, AreLetters, AreSteps, IsFoundLine, IsNodeLine, HasShape, found_text, node_text, line_feeds}
 use Rattle.cr_store.specs.ShapeFaults.{IsFormFault}
 use Rattle.cr_store.specs.ShapeStages.{Then, Lines, IsWrongAt, IsCount, IsVersion, AtEnd, AtNodes, AtJobs, AtJobCount, AtFound, AtFoundCount, AtStart}
-use Rattle.cr_store.specs.ShapeSteps.{Lacks, NoneTells, NoneBegins, IsHead, StopsAtAll, named, found_body, node_body}
-use Rattle.cr_store.proofs.ShapeNumbers.{value_of_number}
-use Rattle.cr_store.proofs.ShapeBytes.{uncut}
-use Rattle.cr_store.proofs.ShapeBodies.{no_line, no_number, no_length, no_calling, no_share, no_steps}
+use Rattle.cr_store.specs.ShapeSteps.{NoneBegins, IsHead, StopsAtAll, found_body, node_body}
+use Rattle.cr_store.proofs.ShapeBodies.{no_line, no_length, no_calling, no_share, no_steps}
 use Rattle.cr_store.proofs.ShapeCodes.{IsCode, IsLine, code_of_line, line_then, none_of_fewer, another_begins, found_is_line, node_is_line}
 use Rattle.cr_store.proofs.ShapeStops.{end_wrong, end_passed, first_found, first_found_known, first_node, first_node_known, some_jobs, some_job_count, some_found_count, found_number, jobs_number, job_number, job_count, job_code, start_number, version_code, version_number, problem_number, start_wrong, stops_at_problem, problem_size_wrong, problem_part_wrong, head_after}
 use Rattle.cr_store.proofs.ShapeWhole.{shape_of_start, form_fault}

@@ -4,9 +4,10 @@ use Rattle.std.proofs.Math.Seq.{take-add}
 use Rattle.std.proofs.lemmas.Bool.{cases_lt}
 use Rattle.std.proofs.lemmas.List.{append_cancel_left}
 use Rattle.cr_model.specs.Checkpoints.{number_line}
-use Rattle.cr_store.specs.Shapes.{FoundParts, NodeParts, ShapeParts, IsNumber, IsFoundLine, IsNodeLine, IsJobLines, HasShape, found_text, node_text, job_text, line_feeds, found_line}
+use Rattle.cr_model.specs.Texts.{IsNumber, Lacks, named}
+use Rattle.cr_store.specs.Shapes.{FoundParts, NodeParts, ShapeParts, IsFoundLine, IsNodeLine, IsJobLines, HasShape, found_text, node_text, job_text, line_feeds, found_line}
 use Rattle.cr_store.specs.ShapeFaults.{CanBeginShape, IsFirstWrongLine, IsFirstWrongPlace, IsFormFault}
-use Rattle.cr_store.specs.ShapeSteps.{Lacks, found_body, node_body, named}
+use Rattle.cr_store.specs.ShapeSteps.{found_body, node_body}
 use Rattle.cr_store.proofs.ShapeBytes.{feeds_joined, goes_past, append_parts, feeds_lacking}
 use Rattle.cr_store.proofs.ShapeBodies.{named_lacks}
 use Rattle.cr_store.proofs.ShapeCodes.{IsCode, code_of_line, codes_joined, found_is_line, node_is_line}

@@ -6,12 +6,13 @@ use Rattle.std.specs.Result.{IsErrAnd}
 use Rattle.std.proofs.lemmas.Result.{err_from_is_err_and}
 use Rattle.std.proofs.lemmas.List.Elements.{All-head, All-tail}
 use Rattle.cr_model.specs.Checkpoints.{number_line}
-use Rattle.cr_store.specs.Shapes.{FoundParts, NodeParts, IsNumber, IsFoundLine, IsNodeLine, IsJobLines, found_text, node_text, job_text, line_feeds}
+use Rattle.cr_model.specs.Texts.{IsNumber, named}
+use Rattle.cr_store.specs.Shapes.{FoundParts, NodeParts, IsFoundLine, IsNodeLine, IsJobLines, found_text, node_text, job_text, line_feeds}
 use Rattle.cr_store.specs.ShapeFaults.{IsShort}
 use Rattle.cr_store.specs.ShapeStages.{IsWrongAt, IsCount, IsVersion, AtEnd, AtNodes, AtJobs, AtJobCount, AtFound, AtFoundCount, AtProblem, AtProblemSize, AtStart}
 use Rattle.cr_store.specs.declared.shape_stop.Stop.{Stop}
 use Rattle.cr_store.specs.declared.shape_stop.Stop.TheVariants as stop
-use Rattle.cr_store.specs.ShapeSteps.{NoneBegins, AreRead, IsShortAfter, IsHead, IsFoundPart, IsJobsPart, Stops, StopsAtProblem, StopsAtAll, named, found_body, node_body}
+use Rattle.cr_store.specs.ShapeSteps.{NoneBegins, AreRead, IsShortAfter, IsHead, IsFoundPart, IsJobsPart, Stops, StopsAtProblem, StopsAtAll, found_body, node_body}
 use Rattle.cr_store.proofs.ShapeBytes.{feeds_joined, whole_line, goes_past, append_parts}
 use Rattle.cr_store.proofs.ShapeCodes.{IsCode, IsLine, code_of_line, word_line, fewer, found_is_line, node_is_line}
 use Rattle.cr_store.proofs.ShapeWrong.{wrong_after, then_after, then_wrong, lines_after, lines_wrong, some_lines}

@@ -3,7 +3,8 @@ use Rattle.std.proofs.Common.{◌≡◌, ℕ, zero, suc, ◌+◌, ◌-◌, ◌<�
 use Rattle.std.proofs.lemmas.List.{take_at}
 use Rattle.std.proofs.lemmas.List.Elements.{All-head, All-tail, All-nil, All-cons}
 use Rattle.cr_model.specs.Checkpoints.{number_line}
-use Rattle.cr_store.specs.Shapes.{FoundParts, NodeParts, ShapeParts, IsNumber, IsFoundLine, IsNodeLine, IsJobLines, HasShape, found_text, node_text, job_text, line_feeds}
+use Rattle.cr_model.specs.Texts.{IsNumber}
+use Rattle.cr_store.specs.Shapes.{FoundParts, NodeParts, ShapeParts, IsFoundLine, IsNodeLine, IsJobLines, HasShape, found_text, node_text, job_text, line_feeds}
 use Rattle.cr_store.specs.ShapeFaults.{IsFormFault}
 use Rattle.cr_store.specs.ShapeStages.{Lines, AtEnd, AtJobs, AtJobCount, AtFound, AtStart}
 use Rattle.cr_store.specs.declared.shape_stop.Stop.TheVariants as stop

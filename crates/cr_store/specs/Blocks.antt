@@ -1,7 +1,7 @@
 -- Byte strings written as blocks, and what stands at a place of a text of blocks.
-use Rattle.std.specs.Prelude.{◌≡◌, ℕ, ◌+◌, ◌-◌, ◌<◌, ◌≤◌, ◌⊎◌, List, [], ◌∷◌, ◌++◌, length, take, drop, flat_map, codes, decimal}
+use Rattle.std.specs.Prelude.{◌≡◌, ℕ, ◌+◌, ◌-◌, ◌<◌, ◌≤◌, ◌⊎◌, List, [], ◌++◌, length, take, drop, flat_map, codes, decimal}
 use Rattle.cr_model.specs.Checkpoints.{number_line}
-use Rattle.cr_store.specs.Shapes.{IsNumber}
+use Rattle.cr_model.specs.Texts.{IsNumber}
 use Rattle.cr_store.specs.declared.blocks.Next.{Next}
 use Rattle.cr_store.specs.declared.blocks.Next.TheVariants as next
 use Rattle.cr_store.specs.declared.blocks.Head.{Head}

@@ -1,7 +1,8 @@
 -- Where a text that has no checkpoint's shape goes wrong first.
 use Rattle.std.specs.Prelude.{◌≡◌, ℕ, ◌+◌, ◌<◌, ◌≤◌, ◌⊎◌, List, ◌++◌, length, take, codes}
 use Rattle.cr_model.specs.Checkpoints.{number_line}
-use Rattle.cr_store.specs.Shapes.{ShapeParts, HasShape, IsNumber, line_feeds}
+use Rattle.cr_model.specs.Texts.{IsNumber}
+use Rattle.cr_store.specs.Shapes.{ShapeParts, HasShape, line_feeds}
 
 -- some text with a shape begins so
 pub record CanBeginShape (front : List ℕ) : Type 0 where

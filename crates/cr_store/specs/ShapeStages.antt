@@ -1,7 +1,8 @@
 -- What may still follow in a text that has a checkpoint's shape, stage by stage.
 use Rattle.std.specs.Prelude.{◌≡◌, ℕ, zero, suc, ◌<◌, ◌⊎◌, List, ◌++◌, length, codes}
 use Rattle.cr_model.specs.Checkpoints.{number_line}
-use Rattle.cr_store.specs.Shapes.{found_text, node_text, IsNumber, IsFoundLine, IsNodeLine, line_feeds}
+use Rattle.cr_model.specs.Texts.{IsNumber}
+use Rattle.cr_store.specs.Shapes.{found_text, node_text, IsFoundLine, IsNodeLine, line_feeds}
 
 -- the text of one value, and then a text of a set that the value tells
 pub record Then {V : Type 0} (text : V → List ℕ) (Known : V → Type 0) (Next : V → List ℕ → Type 0) (all : List ℕ) : Type 0 where

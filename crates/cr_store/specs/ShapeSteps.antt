@@ -1,29 +1,16 @@
 -- What each step of reading a shape tells.
-use Rattle.std.specs.Prelude.{◌≡◌, ℕ, ◌<◌, ◌≤◌, true, false, cond, nat_eq, codes, decimal, List, ◌++◌, length, get_or, flat_map, All}
-use Rattle.std.specs.List.{list_any, list_all}
-use Rattle.std.specs.Char.{is_ascii_digit}
+use Rattle.std.specs.Prelude.{◌≡◌, ℕ, ◌<◌, cond, nat_eq, codes, decimal, List, ◌++◌, length, flat_map, All}
 use Rattle.cr_model.specs.Checkpoints.{number_line}
+use Rattle.cr_model.specs.Texts.{IsNumber}
 use Rattle.cr_store.specs.declared.shape_stop.Stop.{Stop}
 use Rattle.cr_store.specs.declared.shape_stop.Stop.TheVariants as stop
-use Rattle.cr_store.specs.Shapes.{FoundParts, NodeParts, IsNumber, IsFoundLine, IsJobLines, found_text, job_text}
+use Rattle.cr_store.specs.Shapes.{FoundParts, NodeParts, IsFoundLine, IsJobLines, found_text, job_text}
 use Rattle.cr_store.specs.ShapeFaults.{IsShort}
 use Rattle.cr_store.specs.ShapeStages.{IsVersion, IsWrongAt, AtProblemSize, AtStart}
-
--- the byte does not stand in the text
-abbrev pub Lacks : ℕ → List ℕ → Type 0
-Lacks byte text = list_any (nat_eq byte) text ≡ false
-
--- no known value has this text
-abbrev pub NoneTells : {V : Type 0} → (V → List ℕ) → (V → Type 0) → List ℕ → Type 0
-NoneTells {V} text Known all = (value : V) → Known value → all ≡ text value → ⊥
 
 -- it begins with the text of no known value
 abbrev pub NoneBegins : {V : Type 0} → (V → List ℕ) → (V → Type 0) → List ℕ → Type 0
 NoneBegins {V} text Known all = (value : V) (rest : List ℕ) → Known value → all ≡ text value ++ rest → ⊥
-
--- a number after a word
-abbrev pub named : List ℕ → ℕ → List ℕ
-named word n = word ++ decimal n
 
 -- a found touch's line without its line feed
 abbrev pub found_body : FoundParts → List ℕ
@@ -32,13 +19,6 @@ found_body found = decimal found.length ++ codes " " ++ found.calling
 -- a node's line without its line feed
 abbrev pub node_body : ℕ → NodeParts → List ℕ
 node_body version node = cond (nat_eq version 1) node.steps (decimal node.shared ++ codes " " ++ node.steps)
-
--- 1 to 19 digits, of which the first is no zero that others follow
-pub record IsNumeral (digits : List ℕ) : Type 0 where
-  pub some : 0 < length digits
-  pub few : length digits ≤ 19
-  pub plain : get_or digits 0 0 ≡ 48 → length digits ≡ 1
-  pub all : list_all is_ascii_digit digits ≡ true
 
 -- so many values whose texts stand one after another, and what comes after them
 pub record AreRead {V : Type 0} (text : V → List ℕ) (Known : V → Type 0) (count : ℕ) (all : List ℕ) (values : List V) (rest : List ℕ) : Type 0 where

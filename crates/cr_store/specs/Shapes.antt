@@ -1,7 +1,8 @@
 -- The shape of a checkpoint's text: its lines, the numbers on them, and the bytes that can stand between.
-use Rattle.std.specs.Prelude.{◌≡◌, ℕ, ◌+◌, ◌^◌, ◌<◌, ◌⊎◌, Bool, true, cond, nat_eq, nat_le, ◌&&◌, ◌||◌, List, ◌++◌, length, flat_map, codes, decimal, count_by, All}
+use Rattle.std.specs.Prelude.{◌≡◌, ℕ, ◌+◌, ◌<◌, ◌⊎◌, Bool, true, cond, nat_eq, nat_le, ◌&&◌, ◌||◌, List, ◌++◌, length, flat_map, codes, decimal, count_by, All}
 use Rattle.std.specs.List.{list_all}
 use Rattle.cr_model.specs.Checkpoints.{number_line}
+use Rattle.cr_model.specs.Texts.{IsNumber}
 
 -- what stands on the line of a found touch: its length and its calling
 pub record FoundParts : Type 0 where
@@ -44,10 +45,6 @@ shape_text s = number_line (codes "ringsearch checkpoint") s.version
     ++ number_line (codes "jobs") (length s.jobs)
     ++ flat_map (job_text s.version) s.jobs
     ++ codes "end\n"
-
--- a number that can stand on a line
-abbrev pub IsNumber : ℕ → Type 0
-IsNumber n = n < 2 ^ 63
 
 -- a byte `A` to `Z` or `a` to `z`
 abbrev pub is_letter : ℕ → Bool

@@ -1,7 +1,7 @@
 //! Byte strings written as blocks, one after another, and read back from block to block.
 
 ghost use Rattle.std.specs.Prelude.{◌≡◌, ◌≢◌, ◌+◌, ◌<◌, ◌≤◌, ◌++◌, ℕ, List, length, get_or, take, drop, codes, decimal, OnOk, OnErr, IfSome, IfNone, vec_len, vec_capacity};
-ghost use Rattle.cr_store.specs.ShapeSteps.{NoneTells};
+ghost use Rattle.cr_model.specs.Texts.{NoneTells};
 ghost use Rattle.cr_store.specs.Blocks.{block, IsSize, IsNext, IsHead};
 
 use crate::shape_numbers::number_of;

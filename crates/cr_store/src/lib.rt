@@ -8,6 +8,7 @@
 //! - [`remaining_of`], [`remaining_in_order`]: what a board leaves, with the touches in the book's order
 //!   ([`Remaining`]).
 //! - [`write_checkpoint`], [`write_parts`]: the checkpoint of what a board leaves, and of found touches and jobs.
+//! - [`checkpoint_pieces`]: the checkpoint of touches in any order and jobs, sorted and written by several threads.
 //! - [`read_checkpoint`]: the checkpoint that some bytes are ([`Checkpoint`]), or why they are none
 //!   ([`CheckFault`]).
 //! - [`put_block`], [`next_block`]: texts one after another in one file, each a block with its length ([`Next`]).
@@ -48,4 +49,4 @@ pub use blocks::{Next, next_block, put_block};
 pub use checkpoint::{Checkpoint, read_checkpoint};
 pub use collecting::{Remaining, remaining_in_order, remaining_of};
 pub use fault::CheckFault;
-pub use writing::{write_checkpoint, write_parts};
+pub use writing::{checkpoint_pieces, write_checkpoint, write_parts};

@@ -2,7 +2,8 @@
 
 ghost use Rattle.std.specs.Prelude.{◌≡◌, ℕ, ◌+◌, ◌-◌, ◌≤◌, ◌↔◌, suc, ◌++◌, length, take, map, codes, IsTrue, IfOk, IfErr, IfSome, IfNone};
 ghost use Rattle.cr_model.specs.Checkpoints.{number_line};
-ghost use Rattle.cr_store.specs.Shapes.{IsNumber, IsFoundLine, IsNodeLine, IsJobLines, HasShape, found_text, node_text, job_text, line_feeds, found_line};
+ghost use Rattle.cr_model.specs.Texts.{IsNumber};
+ghost use Rattle.cr_store.specs.Shapes.{IsFoundLine, IsNodeLine, IsJobLines, HasShape, found_text, node_text, job_text, line_feeds, found_line};
 ghost use Rattle.cr_store.specs.ShapeReads.{found_parts, node_parts, job_parts, shape_parts, IsShapeFault};
 ghost use Rattle.cr_store.specs.ShapeStages.{IsVersion, IsCount, AtEnd, AtNodes, AtJobs, AtJobCount, AtFound, AtFoundCount};
 ghost use Rattle.cr_store.specs.ShapeSteps.{NoneBegins, AreRead, IsHead, IsFoundPart, IsJobsPart, Stops, StopsAtProblem, StopsAtAll};

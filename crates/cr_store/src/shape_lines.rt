@@ -2,10 +2,11 @@
 
 ghost use Rattle.std.specs.Prelude.{◌≡◌, ℕ, ◌↔◌, List, ◌∷◌, ◌++◌, codes, decimal, IsTrue, IfSome, IfNone};
 ghost use Rattle.std.specs.List.{list_all};
-ghost use Rattle.cr_store.specs.Shapes.{IsNumber, AreSteps, AreLetters, IsFoundLine, IsNodeLine, found_text, node_text};
+ghost use Rattle.cr_model.specs.Texts.{IsNumber, Lacks, NoneTells, named};
+ghost use Rattle.cr_store.specs.Shapes.{AreSteps, AreLetters, IsFoundLine, IsNodeLine, found_text, node_text};
 ghost use Rattle.cr_store.specs.Shapes.{is_letter as letter_test};
 ghost use Rattle.cr_store.specs.ShapeReads.{found_parts, node_parts};
-ghost use Rattle.cr_store.specs.ShapeSteps.{Lacks, NoneTells, NoneBegins, named, found_body, node_body};
+ghost use Rattle.cr_store.specs.ShapeSteps.{NoneBegins, found_body, node_body};
 
 use crate::shape::{FoundLine, NodeLine};
 use crate::shape_numbers::number_of;

@@ -4,8 +4,7 @@ ghost use Rattle.std.specs.Prelude.{◌≡◌, ◌<◌, ◌↔◌, length, get_o
 ghost use Rattle.std.specs.List.{list_all};
 ghost use Rattle.std.specs.Str.Parse.{digits_value};
 ghost use Rattle.std.specs.Char.{is_ascii_digit};
-ghost use Rattle.cr_store.specs.Shapes.{IsNumber};
-ghost use Rattle.cr_store.specs.ShapeSteps.{NoneTells, IsNumeral};
+ghost use Rattle.cr_model.specs.Texts.{IsNumber, NoneTells, IsNumeral};
 
 const GREATEST: u64 = (1 << 63) - 1;
 

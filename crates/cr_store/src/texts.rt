@@ -2,12 +2,11 @@
 
 ghost use Rattle.std.specs.Prelude.{◌≡◌, ◌≤◌, [], ◌++◌, length, map, All, IfOk, decimal, codes, flat_map};
 ghost use Rattle.cr_model.specs.Callings.{HasSteps};
-ghost use Rattle.cr_model.specs.Books.{book_line};
 ghost use Rattle.cr_model.specs.Checkpoints.{number_line, steps_text, steps_shared, node_line, node_lines, job_lines, last_node, nodes_of_jobs};
 ghost use Rattle.cr_store.specs.Written.{lists};
 
 use cr_book::calling_text;
-use cr_model::{Calling, Problem};
+use cr_model::Problem;
 use cr_node::Node;
 use cr_row::NoMemory;
 use itoa::Buffer;
@@ -48,40 +47,6 @@ pub fn write_steps(
     }
     let calling = calling_text(alloc, problem, steps)?;
     text.extend_from_slice(&calling)?;
-    Ok(())
-}
-
-/// Appends a found touch as a line of the book: its length, a space and its calling.
-pub fn write_touch(
-    alloc: Global,
-    text: &mut Vec<u8>,
-    problem: &Problem,
-    touch: &Calling,
-) -> Result<(), NoMemory>
-    requires { HasSteps problem.now touch.now }
-    ensures { IfOk result (λ _. text.new.items ≡ text.old.items ++ book_line problem.now touch.now) }
-{
-    write_number(text, problem.length_of(touch))?;
-    text.push(b' ')?;
-    let calling = calling_text(alloc, problem, touch.steps())?;
-    text.extend_from_slice(&calling)?;
-    text.push(b'\n')?;
-    Ok(())
-}
-
-/// Appends found touches as lines of the book.
-pub fn write_found(
-    alloc: Global,
-    text: &mut Vec<u8>,
-    problem: &Problem,
-    found: &[Calling],
-) -> Result<(), NoMemory>
-    requires { All (HasSteps problem.now) found.now }
-    ensures { IfOk result (λ _. text.new.items ≡ text.old.items ++ flat_map (book_line problem.now) found.now) }
-{
-    for touch in found {
-        write_touch(alloc, text, problem, touch)?;
-    }
     Ok(())
 }
 

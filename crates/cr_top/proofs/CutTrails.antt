@@ -13,7 +13,7 @@ Alone = (text bytes : List ℕ) (p : ProblemParts) (found nodes : List (List ℕ
     → length text < 2 ^ 63 → Input text bytes p found nodes → Input text other q founds rest → AreSame bytes p found nodes other q founds rest
 
 -- inputs that cover the same have one book
-book_of_same : Alone → (input other text : List ℕ) → SameCover input other → length other < 2 ^ 63 → IsBookOf None other text → IsBookOf None input text
+pub book_of_same : Alone → (input other text : List ℕ) → SameCover input other → length other < 2 ^ 63 → IsBookOf None other text → IsBookOf None input text
 book_of_same alone input other text same short made = record {
   bytes = same.bytes;
   p = same.p;

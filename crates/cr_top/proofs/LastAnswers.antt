@@ -41,6 +41,7 @@ module _ (law : OneLast) (input : List ℕ) where
   finishes short last is ended.TooLong writes says = let long : 2 ^ 40 < length input = says in absurd (omega (arith, short))
   finishes short last is (ended.Problem fault) writes says = absurd says
   finishes short last is (ended.Checkpoint fault) writes says = absurd says
+  finishes short last is (ended.Join fault) writes says = absurd says
   finishes short last is (ended.Stopped after) writes says = absurd says
   finishes short last is (ended.Words fault) writes says = absurd says
   finishes short last is ended.ReadFault writes says = absurd says
@@ -54,6 +55,7 @@ module _ (law : OneLast) (input : List ℕ) where
   no_last fault ended.TooLong due says = let long : 2 ^ 40 < length input = says in absurd (omega (arith, due.0))
   no_last fault (ended.Problem other) due says = absurd says
   no_last fault (ended.Checkpoint other) due says = absurd says
+  no_last fault (ended.Join other) due says = absurd says
   no_last fault (ended.Stopped after) due says = absurd says
   no_last fault (ended.Words other) due says = absurd says
   no_last fault ended.ReadFault due says = absurd says
@@ -66,6 +68,7 @@ module _ (law : OneLast) (input : List ℕ) where
   too_long (ended.Trail fault) due says = absurd (omega (arith, due, says.0))
   too_long (ended.Problem fault) due says = absurd says
   too_long (ended.Checkpoint fault) due says = absurd says
+  too_long (ended.Join fault) due says = absurd says
   too_long (ended.Stopped after) due says = absurd says
   too_long (ended.Words fault) due says = absurd says
   too_long ended.ReadFault due says = absurd says
@@ -81,6 +84,7 @@ module _ (law : OneLast) (input : List ℕ) where
   refuses ended.ReadFault status is says = absurd is
   refuses (ended.Problem fault) status is says = absurd is
   refuses (ended.Checkpoint fault) status is says = absurd is
+  refuses (ended.Join fault) status is says = absurd is
 
 -- how such a call ends from a source that told its bytes, where no read failed
 module _ {S K : Type 0} (source : Reading S) (sink : Writing K) (status : Status) (ends : EndsLast source sink status)
@@ -102,6 +106,7 @@ module _ {S K : Type 0} (source : Reading S) (sink : Writing K) (status : Status
   says ended.NoMemory ends = tt
   says (ended.Problem fault) ends = absurd ends.0
   says (ended.Checkpoint fault) ends = absurd ends.0
+  says (ended.Join fault) ends = absurd ends.0
   says (ended.Stopped after) ends = absurd ends.0
   says (ended.Words fault) ends = absurd ends.0
   says ended.ReadFault ends = absurd (reads ends.0.1)

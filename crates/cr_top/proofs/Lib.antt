@@ -8,5 +8,9 @@ pub mod Completeness
 pub mod TrailParts
 pub mod TrailAnswers
 pub mod LastAnswers
+pub mod ShardWishes
+pub mod ShardParts
+pub mod ShardAnswers
+pub mod ShardBooks
 pub mod CutTrails
 pub mod Noting

@@ -20,7 +20,7 @@ use Rattle.cr_top.specs.Endings.{IsDue, EndsTrail}
 use Rattle.cr_top.proofs.Completeness.{taken_of_told, the_input}
 
 -- the text is an input
-abbrev IsInput : List ℕ → Type 0
+abbrev pub IsInput : List ℕ → Type 0
 IsInput input = (bytes : List ℕ) × (p : ProblemParts) × (found : List (List ℕ)) × (nodes : List (List ℕ)) × Input input bytes p found nodes
 
 trail_of_input : (input : List ℕ) (every : ℕ) (trail : List (List ℕ)) → IsTrail input every trail → IsInput input
@@ -28,7 +28,7 @@ trail_of_input input every trail is =
     (is.bytes, is.p, is.found, nodes_of_jobs is.jobs, input_says input is.bytes is.p is.found is.jobs is.says)
 
 -- what a status says of an input that was told, where no read failed
-abbrev Says : List ℕ → Status → Type 0
+abbrev pub Says : List ℕ → Status → Type 0
 Says input ended.Finished = (length input ≤ 2 ^ 40) × IsInput input
 Says input ended.WriteFault = (length input ≤ 2 ^ 40) × IsInput input
 Says input (ended.Problem fault) = (length input ≤ 2 ^ 40) × IsNoProblem input fault
@@ -45,7 +45,7 @@ module _ (input : List ℕ) (one : HasOneAnswer input) where
   not_torn short (bytes, p, found, nodes, is) fault wrong = one.no_check_fault short bytes p found nodes fault is wrong
 
   -- an input is searched to its end, unless a write failed
-  finishes : length input ≤ 2 ^ 40 → IsInput input → (status : Status) → (status ≡ ended.WriteFault → ⊥) → Says input status
+  pub finishes : length input ≤ 2 ^ 40 → IsInput input → (status : Status) → (status ≡ ended.WriteFault → ⊥) → Says input status
       → (status ≡ ended.Finished) ⊎ (status ≡ ended.NoMemory)
   finishes short is ended.Finished writes says = inl refl
   finishes short is ended.NoMemory writes says = inr refl
@@ -57,6 +57,7 @@ module _ (input : List ℕ) (one : HasOneAnswer input) where
   finishes short is (ended.Words fault) writes says = absurd says
   finishes short is ended.ReadFault writes says = absurd says
   finishes short is (ended.Trail fault) writes says = absurd says
+  finishes short is (ended.Join fault) writes says = absurd says
 
   no_problem : (fault : ProblemFault) (status : Status) → (length input ≤ 2 ^ 40) × IsNoProblem input fault → Says input status
       → (status ≡ ended.Problem fault) ⊎ (status ≡ ended.NoMemory)
@@ -70,6 +71,7 @@ module _ (input : List ℕ) (one : HasOneAnswer input) where
   no_problem fault (ended.Words other) due says = absurd says
   no_problem fault ended.ReadFault due says = absurd says
   no_problem fault (ended.Trail other) due says = absurd says
+  no_problem fault (ended.Join other) due says = absurd says
 
   no_checkpoint : (fault : CheckFault) (status : Status) → (length input ≤ 2 ^ 40) × IsNoCheckpoint input fault → Says input status
       → (status ≡ ended.Checkpoint fault) ⊎ (status ≡ ended.NoMemory)
@@ -83,6 +85,7 @@ module _ (input : List ℕ) (one : HasOneAnswer input) where
   no_checkpoint fault (ended.Words other) due says = absurd says
   no_checkpoint fault ended.ReadFault due says = absurd says
   no_checkpoint fault (ended.Trail other) due says = absurd says
+  no_checkpoint fault (ended.Join other) due says = absurd says
 
   too_long : (status : Status) → 2 ^ 40 < length input → Says input status → (status ≡ ended.TooLong) ⊎ (status ≡ ended.NoMemory)
   too_long ended.TooLong due says = inl refl
@@ -95,9 +98,10 @@ module _ (input : List ℕ) (one : HasOneAnswer input) where
   too_long (ended.Words fault) due says = absurd says
   too_long ended.ReadFault due says = absurd says
   too_long (ended.Trail fault) due says = absurd says
+  too_long (ended.Join fault) due says = absurd says
 
   -- each refusal that an input is due comes, unless memory was wanting
-  refuses : (due status : Status) → IsDue input due → Says input status → (status ≡ due) ⊎ (status ≡ ended.NoMemory)
+  pub refuses : (due status : Status) → IsDue input due → Says input status → (status ≡ due) ⊎ (status ≡ ended.NoMemory)
   refuses (ended.Problem fault) status is says = no_problem fault status is says
   refuses (ended.Checkpoint fault) status is says = no_checkpoint fault status is says
   refuses ended.TooLong status is says = too_long status is says
@@ -108,6 +112,7 @@ module _ (input : List ℕ) (one : HasOneAnswer input) where
   refuses (ended.Words fault) status is says = absurd is
   refuses ended.ReadFault status is says = absurd is
   refuses (ended.Trail fault) status is says = absurd is
+  refuses (ended.Join fault) status is says = absurd is
 
 -- how a trail ends from a source that told its bytes, where no read failed
 module _ {S K : Type 0} (source : Reading S) (sink : Writing K) (every : ℕ) (status : Status) (ends : EndsTrail source sink every status)
@@ -130,6 +135,7 @@ module _ {S K : Type 0} (source : Reading S) (sink : Writing K) (every : ℕ) (s
   says (ended.Words fault) ends = absurd ends.0
   says ended.ReadFault ends = absurd (reads ends.0.1)
   says (ended.Trail fault) ends = absurd ends.0
+  says (ended.Join fault) ends = absurd ends.0
 
   no_write_fault : (Rose (sink.faults sink.old) (sink.faults sink.new) → ⊥) → status ≡ ended.WriteFault → ⊥
   no_write_fault writes is =

@@ -9,7 +9,7 @@ use Rattle.cr_words.specs.declared.wish.Mode.TheVariants as mode
 use Rattle.cr_top.specs.declared.status.Status.{Status}
 use Rattle.cr_top.specs.declared.status.Status.TheVariants as ended
 use Rattle.cr_top.specs.Streams.{Reading, Writing}
-use Rattle.cr_top.specs.Endings.{AsksSearch, AsksMake, AsksTrail, AsksLast, EndsSearch, EndsMake, EndsTrail, EndsLast, EndsWish, Ends}
+use Rattle.cr_top.specs.Endings.{AsksSearch, AsksMake, AsksTrail, AsksLast, AsksCut, AsksJoin, EndsSearch, EndsMake, EndsTrail, EndsLast, EndsCut, EndsJoin, EndsWish, Ends}
 
 module _ {S K : Type 0} (source : Reading S) (sink : Writing K) where
   -- a call that did nothing ends for want of memory as any wish may
@@ -20,6 +20,8 @@ module _ {S K : Type 0} (source : Reading S) (sink : Writing K) where
   unbegun none nothing unread unwritten (mode.Trail every) turns =
       inl ((([], none, omega arith), ap source.faults unread), record { grew = nothing; calm = ap sink.faults unwritten })
   unbegun none nothing unread unwritten mode.Last turns = ((([], none, omega arith), ap source.faults unread), unwritten)
+  unbegun none nothing unread unwritten (mode.Cut into) turns = ((([], none, omega arith), ap source.faults unread), unwritten)
+  unbegun none nothing unread unwritten mode.Join turns = ((([], none, omega arith), ap source.faults unread), unwritten)
 
   -- where there was no memory for the words
   pub without_memory : source.took source.old source.new [] → sink.grew sink.old sink.new [] → source.new ≡ source.old → sink.new ≡ sink.old → (words : List Text)
@@ -53,6 +55,14 @@ module _ {S K : Type 0} (source : Reading S) (sink : Writing K) where
     -- a call whose words wish for the last checkpoint of one ends so
     pub as_last : AsksLast words → Ends source sink words status → EndsLast source sink status
     as_last asks ends = as_wish _ asks.2 ends
+
+    -- a call whose words wish to cut an input ends so
+    pub as_cut : (into : ℕ) → AsksCut words into → Ends source sink words status → EndsCut source sink into status
+    as_cut into asks ends = as_wish _ asks.2 ends
+
+    -- a call whose words wish to join shards ends so
+    pub as_join : AsksJoin words → Ends source sink words status → EndsJoin source sink status
+    as_join asks ends = as_wish _ asks.2 ends
 
   -- words that have a fault end with it, or there was not enough memory
   pub refused : (apart : (words : List Text) (wish : Wish) (fault : WordsFault) → IsAccepted words wish → IsWordsFaultOf words fault → ⊥)

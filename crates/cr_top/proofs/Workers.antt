@@ -6,7 +6,7 @@ use Rattle.clap.specs.Words.{Text}
 use Rattle.cr_words.specs.Commands.{assigned}
 use Rattle.cr_words.specs.Numbers.{number_of, in_range, number_from}
 use Rattle.cr_words.specs.Readings.{IsAccepted}
-use Rattle.cr_words.specs.Values.{Assigned, Task, turns_among, every_of, search_with, number_for, mode_for, task_of}
+use Rattle.cr_words.specs.Values.{Assigned, Task, turns_among, every_of, search_with, number_for, into_of, mode_for, task_of}
 use Rattle.cr_words.specs.declared.table.Kind.{Kind}
 use Rattle.cr_words.specs.declared.table.Kind.TheVariants as kind
 use Rattle.cr_words.specs.declared.wish.Wish.{Wish}
@@ -25,7 +25,7 @@ from_number : (least most : ℕ) (number : Option ℕ) (k : ℕ) → option_and_
 from_number least most None k is = absurd (cc)
 from_number least most (Some n) k is = in_bounds least most n k is
 
-from_text : (least most : ℕ) (text : Option (List ℕ)) (k : ℕ) → option_and_then (number_from least most) text ≡ Some k → (least ≤ k) × (k ≤ most)
+pub from_text : (least most : ℕ) (text : Option (List ℕ)) (k : ℕ) → option_and_then (number_from least most) text ≡ Some k → (least ≤ k) × (k ≤ most)
 unfolding number_from
 from_text least most None k is = absurd (cc)
 from_text least most (Some text) k is = from_number least most (number_of text) k is
@@ -59,6 +59,12 @@ of_kind a kind.Make wished is = by (number_for a) is
     by None is = absurd (cc)
     by (Some n) is = let same : mode.Make n ≡ wished = cc in subst HasTurns same tt
 of_kind a kind.Last wished is = let same : mode.Last ≡ wished = cc in subst HasTurns same tt
+of_kind a kind.Cut wished is = by (into_of a) is
+  where
+    by : (number : Option ℕ) → option_map mode.Cut number ≡ Some wished → HasTurns wished
+    by None is = absurd (cc)
+    by (Some n) is = let same : mode.Cut n ≡ wished = cc in subst HasTurns same tt
+of_kind a kind.Join wished is = let same : mode.Join ≡ wished = cc in subst HasTurns same tt
 
 of_task : (a : Assigned) (task : Option Task) (wished : Mode) → option_and_then (λ task. mode_for a task.kind) task ≡ Some wished → HasTurns wished
 of_task a None wished is = absurd (cc)

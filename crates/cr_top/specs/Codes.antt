@@ -14,3 +14,4 @@ code_of ended.WriteFault = 7
 code_of ended.NoMemory = 8
 code_of ended.TooLong = 9
 code_of (ended.Trail fault) = 10
+code_of (ended.Join fault) = 11

@@ -4,6 +4,7 @@ use Rattle.clap.specs.Words.{Text}
 use Rattle.cr_io.specs.Causes.{Rose}
 use Rattle.cr_io.specs.Ends.{TookAtMost, TookMore}
 use Rattle.cr_model.specs.Problems.{ProblemParts}
+use Rattle.cr_shard.specs.JoinFaults.{IsJoin, FirstJoinFault}
 use Rattle.cr_store.specs.Blocks.{blocks}
 use Rattle.cr_trail.specs.Lasts.{IsLast}
 use Rattle.cr_trail.specs.Trails.{IsTrail, LeavesNone}
@@ -13,6 +14,7 @@ use Rattle.cr_words.specs.declared.wish.Wish.{Wish}
 use Rattle.cr_words.specs.declared.wish.Mode.{Mode}
 use Rattle.cr_words.specs.declared.wish.Mode.TheVariants as mode
 use Rattle.cr_top.specs.Made.{IsSummaryOf}
+use Rattle.cr_top.specs.Shards.{IsCutOf}
 use Rattle.cr_top.specs.Streams.{Reading, Writing, WasRead, WasWritten, WasCutOff}
 use Rattle.cr_top.specs.Texts.{IsBookOf, IsStopOf, IsTextOf, IsNoProblem, IsNoCheckpoint}
 use Rattle.cr_top.specs.declared.refusal.Refusal.{Refusal}
@@ -41,6 +43,19 @@ HasTurns wished = ⊤
 abbrev pub AsksLast : List Text → Type 0
 AsksLast words = (workers : ℕ) × (turns : Option ℕ) × IsAccepted words (record { workers = workers; turns = turns; mode = mode.Last })
 
+-- the words wish to cut an input into so many shards
+abbrev pub AsksCut : List Text → ℕ → Type 0
+AsksCut words into = (workers : ℕ) × (turns : Option ℕ) × IsAccepted words (record { workers = workers; turns = turns; mode = mode.Cut into })
+
+-- there is one shard or more
+abbrev pub HasShards : Mode → Type 0
+HasShards (mode.Cut into) = 1 ≤ into
+HasShards wished = ⊤
+
+-- the words wish to join shards
+abbrev pub AsksJoin : List Text → Type 0
+AsksJoin words = (workers : ℕ) × (turns : Option ℕ) × IsAccepted words (record { workers = workers; turns = turns; mode = mode.Join })
+
 -- the status of a call that wrote its text whole, after so many turns where it stopped, or was refused
 abbrev pub status_of : Result (Option ℕ) Refusal → Status
 status_of (Ok None) = ended.Finished
@@ -53,6 +68,7 @@ status_of (Err refusal.WriteFault) = ended.WriteFault
 status_of (Err refusal.NoMemory) = ended.NoMemory
 status_of (Err refusal.TooLong) = ended.TooLong
 status_of (Err (refusal.Trail fault)) = ended.Trail fault
+status_of (Err (refusal.Join fault)) = ended.Join fault
 
 -- a call got no input.
 -- Problem, Checkpoint: the source was read to its end, and what was left in it is no problem, or no checkpoint, for
@@ -143,12 +159,41 @@ EndsLast source sink ended.WriteFault =
     (input : List ℕ) × (last : ℕ × ℕ) × WasRead source input × IsLast input (Ok last) × WasCutOff sink (body_in input last)
 EndsLast source sink status = GetsNoBytes source status × (sink.new ≡ sink.old)
 
+-- how a call ends that cuts an input into so many shards.
+-- Finished: the source was read to its end, and the sink grew by the blocks of the shards of what was left in it.
+-- WriteFault: the source was read to its end, the sink grew by a front of the blocks of the shards of what was left in it,
+-- and its count of faults rose.
+-- On every other status there was no input, or no memory for its shards, and the sink is left as it was
+abbrev pub EndsCut : {S K : Type 0} → Reading S → Writing K → ℕ → Status → Type 0
+EndsCut source sink into ended.Finished =
+    (input text : List ℕ) × WasRead source input × IsCutOf into input text × WasWritten sink text
+EndsCut source sink into ended.WriteFault =
+    (input text : List ℕ) × WasRead source input × IsCutOf into input text × WasCutOff sink text
+EndsCut source sink into status = GetsNoInput source status × (sink.new ≡ sink.old)
+
+-- how a call ends that joins shards.
+-- Finished: the source was read to its end, what was left in it is blocks of checkpoints, and the sink grew by these joined.
+-- Join: the source was read to its end, and what was left in it can't be joined, for this reason.
+-- WriteFault: the source was read to its end, the sink grew by a front of the checkpoints in it joined, and its count of
+-- faults rose.
+-- On every other status there were no bytes, or not enough memory. On Join and these the sink is left as it was
+abbrev pub EndsJoin : {S K : Type 0} → Reading S → Writing K → Status → Type 0
+EndsJoin source sink ended.Finished =
+    (input joined : List ℕ) × WasRead source input × IsJoin input joined × WasWritten sink joined
+EndsJoin source sink (ended.Join fault) =
+    (input : List ℕ) × WasRead source input × FirstJoinFault input fault × (sink.new ≡ sink.old)
+EndsJoin source sink ended.WriteFault =
+    (input joined : List ℕ) × WasRead source input × IsJoin input joined × WasCutOff sink joined
+EndsJoin source sink status = GetsNoBytes source status × (sink.new ≡ sink.old)
+
 -- how a call for a wish ends, by its mode. One that makes a problem leaves the source as it was
 abbrev pub EndsWish : {S K : Type 0} → Reading S → Writing K → Mode → Option ℕ → Status → Type 0
 EndsWish source sink mode.Search turns status = EndsSearch source sink turns status
 EndsWish source sink (mode.Make number) turns status = (source.new ≡ source.old) × EndsMake sink number status
 EndsWish source sink (mode.Trail every) turns status = EndsTrail source sink every status
 EndsWish source sink mode.Last turns status = EndsLast source sink status
+EndsWish source sink (mode.Cut into) turns status = EndsCut source sink into status
+EndsWish source sink mode.Join turns status = EndsJoin source sink status
 
 -- how a call ends whose words have a fault: it is told, or there was not enough memory, and source and sink are left as
 -- they were
@@ -177,3 +222,9 @@ abbrev pub IsLastDue : List ℕ → Status → Type 0
 IsLastDue input (ended.Trail fault) = (length input ≤ 2 ^ 40) × IsLast input (Err fault)
 IsLastDue input ended.TooLong = 2 ^ 40 < length input
 IsLastDue input status = ⊥
+
+-- the refusal that the bytes of shards are due: they can't be joined, or are more than are read
+abbrev pub IsJoinDue : List ℕ → Status → Type 0
+IsJoinDue input (ended.Join fault) = (length input ≤ 2 ^ 40) × FirstJoinFault input fault
+IsJoinDue input ended.TooLong = 2 ^ 40 < length input
+IsJoinDue input status = ⊥

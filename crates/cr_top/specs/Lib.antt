@@ -7,6 +7,7 @@ pub mod Runs
 pub mod Texts
 pub mod Starts
 pub mod Streams
+pub mod Shards
 pub mod Endings
 pub mod Refused
 pub mod OneAnswer

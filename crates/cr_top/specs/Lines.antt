@@ -9,6 +9,8 @@ use Rattle.cr_model.specs.declared.file_fault.Whose.{Whose}
 use Rattle.cr_model.specs.declared.file_fault.Whose.TheVariants as owner
 use Rattle.cr_model.specs.declared.file_fault.ProblemFault.{ProblemFault}
 use Rattle.cr_model.specs.declared.file_fault.ProblemFault.TheVariants as fault
+use Rattle.cr_shard.specs.declared.fault.JoinFault.{JoinFault}
+use Rattle.cr_shard.specs.declared.fault.JoinFault.TheVariants as join
 use Rattle.cr_store.specs.declared.fault.CheckFault.{CheckFault}
 use Rattle.cr_store.specs.declared.fault.CheckFault.TheVariants as check
 use Rattle.cr_trail.specs.declared.last.TrailFault.{TrailFault}
@@ -87,6 +89,7 @@ fault_words wrong.Mode = codes "5 Mode"
 fault_words wrong.Mixed = codes "6 Mixed"
 fault_words wrong.NoMemory = codes "7 NoMemory"
 fault_words wrong.Every = codes "8 Every"
+fault_words wrong.Into = codes "9 Into"
 
 -- the number, the name and the details of a fault of a checkpoint; of its problem's fault again number, name and details
 abbrev pub check_words : CheckFault → List ℕ
@@ -104,6 +107,16 @@ abbrev pub trail_words : TrailFault → List ℕ
 trail_words (trail.Form at) = codes "1 Form" ++ number at
 trail_words trail.Nothing = codes "2 Nothing"
 
+-- the number, the name and the details of why shards can't be joined; of the fault of a checkpoint again number, name and
+-- details
+abbrev pub join_words : JoinFault → List ℕ
+join_words (join.Form at) = codes "1 Form" ++ number at
+join_words (join.Blocks many) = codes "2 Blocks" ++ number many
+join_words (join.Check body wrong) = codes "3 Check" ++ (number body ++ (codes " " ++ check_words wrong))
+join_words (join.OtherProblem body at) = codes "4 OtherProblem" ++ (number body ++ number at)
+join_words (join.Overlap one other) = codes "5 Overlap" ++ (number one ++ number other)
+join_words join.NoMemory = codes "6 NoMemory"
+
 -- the program's name, the words, and a line feed
 abbrev pub line : List ℕ → List ℕ
 line words = codes "ringsearch: " ++ (words ++ (10 ∷ []))
@@ -120,3 +133,4 @@ note_line status.WriteFault = line (codes "write failed")
 note_line status.NoMemory = line (codes "no memory")
 note_line status.TooLong = line (codes "input too long")
 note_line (status.Trail fault) = line (codes "trail " ++ trail_words fault)
+note_line (status.Join fault) = line (codes "join " ++ join_words fault)

@@ -4,6 +4,9 @@ use Rattle.std.specs.declared.alloc.Global.{Global}
 use Rattle.cr_io.specs.declared.reading.ReadEnd.{ReadEnd}
 use Rattle.cr_io.specs.declared.reading.ReadEnd.TheVariants as end
 use Rattle.cr_explore.specs.Searches.{searched}
+use Rattle.cr_shard.specs.JoinFaults.{FirstJoinFault}
+use Rattle.cr_shard.specs.declared.fault.JoinFault.{JoinFault}
+use Rattle.cr_shard.specs.declared.fault.JoinFault.TheVariants as fault
 use Rattle.cr_store.specs.Written.{lists}
 use Rattle.cr_top.specs.Streams.{Reading, Writing, WasRead, WasWritten, WasCutOff}
 use Rattle.cr_top.specs.Texts.{IsReached, IsTextOf, IsNoProblem, IsNoCheckpoint}
@@ -27,6 +30,17 @@ abbrev pub trail_result : TrailEnd → Result (Option ℕ) Refusal
 trail_result trail.Done = Ok None
 trail_result trail.WriteFault = Err refusal.WriteFault
 trail_result trail.NoMemory = Err refusal.NoMemory
+
+-- the refusal of shards that were not joined
+abbrev pub join_refusal : JoinFault → Refusal
+join_refusal fault.NoMemory = refusal.NoMemory
+join_refusal why = refusal.Join why
+
+-- the bytes can't be joined for this reason, or there was not enough memory
+abbrev pub IsUnjoined : List ℕ → Refusal → Type 0
+IsUnjoined input (refusal.Join why) = FirstJoinFault input why
+IsUnjoined input refusal.NoMemory = ⊤
+IsUnjoined input why = ⊥
 
 -- the input was read whole, or it was not for this reason
 abbrev pub ReadsInput : {S : Type 0} → Reading S → Result (Vec ℕ Global) Refusal → Type 0

@@ -70,8 +70,8 @@ pub fn run_by<R: AllocGlobal + Threads + Wait + Sync, E: Explorer + Sync>(
 
 /// Goes on with a search to its end by one worker, who waits for nobody, and writes a checkpoint at once, after each so
 /// many turns and at the end.
-pub fn trail_by_one<E: Explorer, K: Sink>(
-    alloc: Global,
+pub fn trail_by_one<R: AllocGlobal + Threads + Sync, E: Explorer, K: Sink>(
+    rt: &R,
     explorer: &E,
     bytes: &[u8],
     left: Remaining,
@@ -88,12 +88,12 @@ pub fn trail_by_one<E: Explorer, K: Sink>(
     let call = |opening: Opening| -> Result<Board, NoMemory>
         requires { E.explores explorer.now ≡ opening.problem }
         ensures { IfOk result (IsRun opening) }
-    { run_one(alloc, opening, explorer) };
+    { run_one(rt.alloc(), opening, explorer) };
     let runner = ByCall {
         problem: explorer.problem(),
         call,
     };
-    run_trail(alloc, 1, &runner, bytes, left, every, sink)
+    run_trail(rt, 1, &runner, bytes, left, every, sink)
 }
 
 /// The same by so many workers, who may wait for one another.
@@ -123,7 +123,7 @@ pub fn trail_by<R: AllocGlobal + Threads + Wait + Sync, E: Explorer + Sync, K: S
         problem: explorer.problem(),
         call,
     };
-    run_trail(rt.alloc(), workers, &runner, bytes, left, every, sink)
+    run_trail(rt, workers, &runner, bytes, left, every, sink)
 }
 
 // Runs a board of an opening to its end, by as many workers as it has. One alone takes no lock.

@@ -6,6 +6,7 @@ ghost use Rattle.cr_model.specs.declared.fault.CountAt.TheVariants as counted;
 ghost use Rattle.cr_model.specs.declared.notation.NotationFault.TheVariants as notation;
 ghost use Rattle.cr_model.specs.declared.file_fault.Whose.TheVariants as owner;
 ghost use Rattle.cr_model.specs.declared.file_fault.ProblemFault.TheVariants as fault;
+ghost use Rattle.cr_shard.specs.declared.fault.JoinFault.TheVariants as join;
 ghost use Rattle.cr_store.specs.declared.fault.CheckFault.TheVariants as check;
 ghost use Rattle.cr_trail.specs.declared.last.TrailFault.TheVariants as trail;
 ghost use Rattle.cr_words.specs.declared.fault.WordsFault.TheVariants as wrong;
@@ -17,8 +18,8 @@ ghost use Rattle.cr_top.specs.Lines.{note_line};
 pub fn statuses_have_their_numbers()
     ensures { map code_of (ended.Finished ∷ ended.Words wrong.Line ∷ ended.Stopped 3 ∷ ended.Problem fault.NotToml
         ∷ ended.Checkpoint (check.Form 1) ∷ ended.ReadFault ∷ ended.WriteFault ∷ ended.NoMemory ∷ ended.TooLong
-        ∷ ended.Trail trail.Nothing ∷ [])
-        ≡ 0 ∷ 2 ∷ 3 ∷ 4 ∷ 5 ∷ 6 ∷ 7 ∷ 8 ∷ 9 ∷ 10 ∷ [] }
+        ∷ ended.Trail trail.Nothing ∷ ended.Join (join.Blocks 0) ∷ [])
+        ≡ 0 ∷ 2 ∷ 3 ∷ 4 ∷ 5 ∷ 6 ∷ 7 ∷ 8 ∷ 9 ∷ 10 ∷ 11 ∷ [] }
 {}
 
 /// The line of each status, and none where the run finished.
@@ -38,16 +39,18 @@ pub fn statuses_have_their_lines()
     ensures long { note_line ended.TooLong ≡ codes "ringsearch: input too long\n" }
     ensures trail { map (λ f. note_line (ended.Trail f)) (trail.Form 6 ∷ trail.Nothing ∷ [])
         ≡ codes "ringsearch: trail 1 Form 6\n" ∷ codes "ringsearch: trail 2 Nothing\n" ∷ [] }
+    ensures join { note_line (ended.Join (join.Overlap 0 1)) ≡ codes "ringsearch: join 5 Overlap 0 1\n" }
 {}
 
 /// The line of each fault of the command line.
 pub fn faults_of_words_have_their_lines()
     ensures { map (λ f. note_line (ended.Words f)) (wrong.Line ∷ wrong.Workers ∷ wrong.Turns ∷ wrong.Number ∷ wrong.Mode
-        ∷ wrong.Mixed ∷ wrong.NoMemory ∷ wrong.Every ∷ [])
+        ∷ wrong.Mixed ∷ wrong.NoMemory ∷ wrong.Every ∷ wrong.Into ∷ [])
         ≡ codes "ringsearch: words 1 Line\n" ∷ codes "ringsearch: words 2 Workers\n"
         ∷ codes "ringsearch: words 3 Turns\n" ∷ codes "ringsearch: words 4 Number\n"
         ∷ codes "ringsearch: words 5 Mode\n" ∷ codes "ringsearch: words 6 Mixed\n"
-        ∷ codes "ringsearch: words 7 NoMemory\n" ∷ codes "ringsearch: words 8 Every\n" ∷ [] }
+        ∷ codes "ringsearch: words 7 NoMemory\n" ∷ codes "ringsearch: words 8 Every\n"
+        ∷ codes "ringsearch: words 9 Into\n" ∷ [] }
 {}
 
 /// The line of each fault of a problem, with its details in their order: the indexes, the numbers, which may be negative,
@@ -103,4 +106,18 @@ pub fn faults_of_checkpoints_have_their_lines()
         ∷ codes "ringsearch: checkpoint 4 NodeLong 18\n" ∷ codes "ringsearch: checkpoint 5 NotKept 15\n"
         ∷ codes "ringsearch: checkpoint 6 FoundOrder 17\n" ∷ codes "ringsearch: checkpoint 7 Overlap 17 18\n"
         ∷ codes "ringsearch: checkpoint 8 NoMemory\n" ∷ [] }
+{}
+
+/// The line of each fault of a join, with its numbers in their order. Of the fault of a body it has the number, the name and
+/// the details, and so of the fault of its problem.
+pub fn faults_of_joins_have_their_lines()
+    ensures { map (λ f. note_line (ended.Join f)) (join.Form 399 ∷ join.Blocks 0 ∷ join.Blocks 1025
+        ∷ join.Check 12 (check.Form 1) ∷ join.Check 0 (check.Overlap 17 18) ∷ join.Check 3 (check.Problem (fault.Stage (pos 17)))
+        ∷ join.Check 1023 (check.Problem (fault.Key (codes "query"))) ∷ join.OtherProblem 1 8 ∷ join.Overlap 0 1
+        ∷ join.NoMemory ∷ [])
+        ≡ codes "ringsearch: join 1 Form 399\n" ∷ codes "ringsearch: join 2 Blocks 0\n"
+        ∷ codes "ringsearch: join 2 Blocks 1025\n" ∷ codes "ringsearch: join 3 Check 12 1 Form 1\n"
+        ∷ codes "ringsearch: join 3 Check 0 7 Overlap 17 18\n" ∷ codes "ringsearch: join 3 Check 3 2 Problem 3 Stage 17\n"
+        ∷ codes "ringsearch: join 3 Check 1023 2 Problem 2 Key query\n" ∷ codes "ringsearch: join 4 OtherProblem 1 8\n"
+        ∷ codes "ringsearch: join 5 Overlap 0 1\n" ∷ codes "ringsearch: join 6 NoMemory\n" ∷ [] }
 {}

@@ -4,9 +4,10 @@
 //! [`ringsearch`] does all that the program does, over any source and sinks. It reads a problem file or a
 //! checkpoint, searches it by one worker or by several, and writes the book; or, where it was to stop after so many
 //! turns and something is left, a checkpoint to go on from. The words may also ask for a trail, a checkpoint after
-//! each so many turns; for the last whole checkpoint of what is left of one; or for the summary of a problem that is
-//! made of a number. Its contract is the theorem that docs/theorem.md tells. Nothing is written before the whole text
-//! is made, but a trail is written checkpoint by checkpoint.
+//! each so many turns; for the last whole checkpoint of what is left of one; for an input cut into shards, checkpoints
+//! that can be searched apart, and for these joined; or for the summary of a problem that is made of a number. Its
+//! contract is the theorem that docs/theorem.md tells. Nothing is written before the whole text is made, but a trail is
+//! written checkpoint by checkpoint.
 //!
 //! - [`ringsearch`]: the whole program but its streams. Each status but `Finished` writes its line to the notes.
 //! - [`search_alone`], [`trail_alone`]: the search and the trail by one worker, who waits for nobody; they are proved to
@@ -44,6 +45,8 @@ mod preparing;
 mod refusal;
 mod search;
 mod searching;
+pub mod shard_laws;
+mod sharding;
 mod start;
 mod status;
 mod top;

@@ -4,7 +4,7 @@ ghost use Rattle.std.specs.Prelude.{◌≡◌, ◌≤◌, ◌++◌, map, codes};
 ghost use Rattle.std.specs.Fmt.{decimal, signed_decimal};
 ghost use Rattle.cr_io.specs.Causes.{Rose};
 ghost use Rattle.cr_top.specs.Noted.{IsWritten, AppendsFront};
-ghost use Rattle.cr_top.specs.Lines.{shown, notation_words, fault_words, problem_words, check_words, trail_words, line, note_line};
+ghost use Rattle.cr_top.specs.Lines.{shown, notation_words, fault_words, problem_words, check_words, trail_words, join_words, line, note_line};
 ghost use Rattle.cr_top.specs.Pieces.{piece_text, text_of};
 
 use crate::Status;
@@ -12,6 +12,7 @@ use crate::piece::Piece;
 use crate::piece::Piece::*;
 use cr_io::{Sink, WriteFault, write_whole};
 use cr_model::{CountAt, NotationFault, ProblemFault, Whose};
+use cr_shard::JoinFault;
 use cr_store::CheckFault;
 use cr_trail::TrailFault;
 use cr_words::WordsFault;
@@ -137,148 +138,170 @@ fn write_words<N: Sink>(notes: &mut N, fault: WordsFault) -> Result<(), WriteFau
         WordsFault::Mixed => write_line(notes, &[Text(b"words 6 Mixed")]),
         WordsFault::NoMemory => write_line(notes, &[Text(b"words 7 NoMemory")]),
         WordsFault::Every => write_line(notes, &[Text(b"words 8 Every")]),
+        WordsFault::Into => write_line(notes, &[Text(b"words 9 Into")]),
     }
 }
 
-// Appends the line of a fault: these words, and its number and name.
-fn write_fault<'a, N: Sink>(
-    notes: &mut N,
-    words: &'a [u8],
-    name: &'a [u8],
-) -> Result<(), WriteFault>
-    ensures { IsWritten N.grew N.faults notes.old notes.new result (line (words.now ++ name.now)) }
+// Appends the number and the name of a fault, and ends the line.
+fn end_fault<'a, N: Sink>(notes: &mut N, name: &'a [u8]) -> Result<(), WriteFault>
+    ensures { IsWritten N.grew N.faults notes.old notes.new result (name.now ++ codes "\n") }
 {
-    write_line(notes, &[Text(words), Text(name)])
+    write_ended(notes, &[Text(name)])
 }
 
 // The same with a detail.
-fn write_detail<'a, N: Sink>(
+fn end_detail<'a, N: Sink>(
     notes: &mut N,
-    words: &'a [u8],
     name: &'a [u8],
     detail: Piece<'a>,
 ) -> Result<(), WriteFault>
-    ensures { IsWritten N.grew N.faults notes.old notes.new result (line (words.now ++ (name.now ++ piece_text detail.entry))) }
+    ensures { IsWritten N.grew N.faults notes.old notes.new result ((name.now ++ piece_text detail.entry) ++ codes "\n") }
 {
-    write_line(notes, &[Text(words), Text(name), detail])
+    write_ended(notes, &[Text(name), detail])
 }
 
 // The same with two details and a space between them.
-fn write_details<'a, N: Sink>(
+fn end_details<'a, N: Sink>(
     notes: &mut N,
-    words: &'a [u8],
     name: &'a [u8],
     first: Piece<'a>,
     second: Piece<'a>,
 ) -> Result<(), WriteFault>
     ensures { IsWritten N.grew N.faults notes.old notes.new result
-        (line (words.now ++ (name.now ++ (piece_text first.entry ++ (codes " " ++ piece_text second.entry))))) }
+        ((name.now ++ (piece_text first.entry ++ (codes " " ++ piece_text second.entry))) ++ codes "\n") }
 {
-    write_line(notes, &[Text(words), Text(name), first, Text(b" "), second])
+    write_ended(notes, &[Text(name), first, Text(b" "), second])
 }
 
-// Appends the line of a fault of a notation, whose words begin with a space.
-fn write_notation<'a, N: Sink>(
+// Ends the line of a fault of a notation, whose words begin with a space.
+fn end_notation<'a, N: Sink>(
     notes: &mut N,
-    words: &'a [u8],
     name: &'a [u8],
     index: u64,
     wrong: NotationFault,
 ) -> Result<(), WriteFault>
     ensures { IsWritten N.grew N.faults notes.old notes.new result
-        (line (words.now ++ (name.now ++ (decimal index ++ notation_words wrong)))) }
+        ((name.now ++ (decimal index ++ notation_words wrong)) ++ codes "\n") }
 {
-    write_line(
-        notes,
-        &[Text(words), Text(name), Number(index), Wrong(wrong)],
-    )
+    write_ended(notes, &[Text(name), Number(index), Wrong(wrong)])
 }
 
-// Appends the line of a fault of a problem: these words, and its number, its name and its details.
-fn write_problem<'a, N: Sink>(
-    notes: &mut N,
-    words: &'a [u8],
-    fault: &'a ProblemFault,
-) -> Result<(), WriteFault>
-    ensures { IsWritten N.grew N.faults notes.old notes.new result (line (words.now ++ problem_words fault.now)) }
+// Ends the line of a fault of a problem: its number, its name and its details.
+fn end_problem<N: Sink>(notes: &mut N, fault: &ProblemFault) -> Result<(), WriteFault>
+    ensures { IsWritten N.grew N.faults notes.old notes.new result (problem_words fault.now ++ codes "\n") }
 {
     match fault {
-        ProblemFault::NotToml => write_fault(notes, words, b"1 NotToml"),
-        ProblemFault::Key(key) => write_detail(notes, words, b"2 Key ", Shown(&key.bytes)),
-        ProblemFault::Stage(stage) => write_detail(notes, words, b"3 Stage ", Signed(*stage)),
-        ProblemFault::Letter(method) => write_detail(notes, words, b"4 Letter ", Number(*method)),
+        ProblemFault::NotToml => end_fault(notes, b"1 NotToml"),
+        ProblemFault::Key(key) => end_detail(notes, b"2 Key ", Shown(&key.bytes)),
+        ProblemFault::Stage(stage) => end_detail(notes, b"3 Stage ", Signed(*stage)),
+        ProblemFault::Letter(method) => end_detail(notes, b"4 Letter ", Number(*method)),
         ProblemFault::Notation(Whose::Method(index), wrong) => {
-            write_notation(notes, words, b"5 Notation method ", *index, *wrong)
+            end_notation(notes, b"5 Notation method ", *index, *wrong)
         }
         ProblemFault::Notation(Whose::Call(index), wrong) => {
-            write_notation(notes, words, b"5 Notation call ", *index, *wrong)
+            end_notation(notes, b"5 Notation call ", *index, *wrong)
         }
-        ProblemFault::Over(call) => write_detail(notes, words, b"6 Over ", Number(*call)),
-        ProblemFault::Mark(call) => write_detail(notes, words, b"7 Mark ", Number(*call)),
+        ProblemFault::Over(call) => end_detail(notes, b"6 Over ", Number(*call)),
+        ProblemFault::Mark(call) => end_detail(notes, b"7 Mark ", Number(*call)),
         ProblemFault::CallLength(call, method) => {
-            write_details(
-                notes,
-                words,
-                b"8 CallLength ",
-                Number(*call),
-                Number(*method),
-            )
+            end_details(notes, b"8 CallLength ", Number(*call), Number(*method))
         }
         ProblemFault::Clash(first, second) => {
-            write_details(notes, words, b"9 Clash ", Number(*first), Number(*second))
+            end_details(notes, b"9 Clash ", Number(*first), Number(*second))
         }
-        ProblemFault::Steps(leads) => write_detail(notes, words, b"10 Steps ", Number(*leads)),
+        ProblemFault::Steps(leads) => end_detail(notes, b"10 Steps ", Number(*leads)),
         ProblemFault::Range(low, high) => {
-            write_details(notes, words, b"11 Range ", Signed(*low), Signed(*high))
+            end_details(notes, b"11 Range ", Signed(*low), Signed(*high))
         }
-        ProblemFault::Deep(depth) => write_detail(notes, words, b"12 Deep ", Number(*depth)),
-        ProblemFault::Parts(parts) => write_detail(notes, words, b"13 Parts ", Signed(*parts)),
+        ProblemFault::Deep(depth) => end_detail(notes, b"12 Deep ", Number(*depth)),
+        ProblemFault::Parts(parts) => end_detail(notes, b"13 Parts ", Signed(*parts)),
         ProblemFault::Count(CountAt::Mark(index)) => {
-            write_detail(notes, words, b"14 Count count ", Number(*index))
+            end_detail(notes, b"14 Count count ", Number(*index))
         }
         ProblemFault::Count(CountAt::Method(index)) => {
-            write_detail(notes, words, b"14 Count leads ", Number(*index))
+            end_detail(notes, b"14 Count leads ", Number(*index))
         }
-        ProblemFault::Pattern(index) => write_detail(notes, words, b"15 Pattern ", Number(*index)),
-        ProblemFault::NoMemory => write_fault(notes, words, b"16 NoMemory"),
-        ProblemFault::Com => write_fault(notes, words, b"17 Com"),
+        ProblemFault::Pattern(index) => end_detail(notes, b"15 Pattern ", Number(*index)),
+        ProblemFault::NoMemory => end_fault(notes, b"16 NoMemory"),
+        ProblemFault::Com => end_fault(notes, b"17 Com"),
     }
 }
 
-// Appends the line of a fault of a checkpoint: its number, its name and its details.
+// Ends the line of a fault of the problem of a checkpoint.
+fn end_own_problem<N: Sink>(notes: &mut N, fault: &ProblemFault) -> Result<(), WriteFault>
+    ensures { IsWritten N.grew N.faults notes.old notes.new result (codes "2 Problem " ++ (problem_words fault.now ++ codes "\n")) }
+{
+    write_text(notes, b"2 Problem ")?;
+    end_problem(notes, fault)
+}
+
+// Ends the line of a fault of a checkpoint: its number, its name and its details.
+fn end_check<N: Sink>(notes: &mut N, fault: &CheckFault) -> Result<(), WriteFault>
+    ensures { IsWritten N.grew N.faults notes.old notes.new result (check_words fault.now ++ codes "\n") }
+{
+    match fault {
+        CheckFault::Form(at) => end_detail(notes, b"1 Form ", Number(*at)),
+        CheckFault::Problem(wrong) => end_own_problem(notes, wrong),
+        CheckFault::Calling(at) => end_detail(notes, b"3 Calling ", Number(*at)),
+        CheckFault::NodeLong(at) => end_detail(notes, b"4 NodeLong ", Number(*at)),
+        CheckFault::NotKept(at) => end_detail(notes, b"5 NotKept ", Number(*at)),
+        CheckFault::FoundOrder(at) => end_detail(notes, b"6 FoundOrder ", Number(*at)),
+        CheckFault::Overlap(earlier, at) => {
+            end_details(notes, b"7 Overlap ", Number(*earlier), Number(*at))
+        }
+        CheckFault::NoMemory => end_fault(notes, b"8 NoMemory"),
+    }
+}
+
+// Ends the line of a body that is no checkpoint: which it is, and why.
+fn end_body<N: Sink>(notes: &mut N, body: u64, fault: &CheckFault) -> Result<(), WriteFault>
+    ensures { IsWritten N.grew N.faults notes.old notes.new result
+        ((codes "3 Check " ++ (decimal body ++ codes " ")) ++ (check_words fault.now ++ codes "\n")) }
+{
+    write_pieces(notes, &[Text(b"3 Check "), Number(body), Text(b" ")])?;
+    end_check(notes, fault)
+}
+
+// Ends the line of why shards can't be joined: its number, its name and its details.
+fn end_join<N: Sink>(notes: &mut N, fault: &JoinFault) -> Result<(), WriteFault>
+    ensures { IsWritten N.grew N.faults notes.old notes.new result (join_words fault.now ++ codes "\n") }
+{
+    match fault {
+        JoinFault::Form(at) => end_detail(notes, b"1 Form ", Number(*at)),
+        JoinFault::Blocks(many) => end_detail(notes, b"2 Blocks ", Number(*many)),
+        JoinFault::Check(body, wrong) => end_body(notes, *body, wrong),
+        JoinFault::OtherProblem(body, at) => {
+            end_details(notes, b"4 OtherProblem ", Number(*body), Number(*at))
+        }
+        JoinFault::Overlap(one, other) => {
+            end_details(notes, b"5 Overlap ", Number(*one), Number(*other))
+        }
+        JoinFault::NoMemory => end_fault(notes, b"6 NoMemory"),
+    }
+}
+
+// Appends the line of a fault of a problem.
+fn write_problem<N: Sink>(notes: &mut N, fault: &ProblemFault) -> Result<(), WriteFault>
+    ensures { IsWritten N.grew N.faults notes.old notes.new result (line (codes "problem " ++ problem_words fault.now)) }
+{
+    write_text(notes, b"ringsearch: problem ")?;
+    end_problem(notes, fault)
+}
+
+// Appends the line of a fault of a checkpoint.
 fn write_check<N: Sink>(notes: &mut N, fault: &CheckFault) -> Result<(), WriteFault>
     ensures { IsWritten N.grew N.faults notes.old notes.new result (line (codes "checkpoint " ++ check_words fault.now)) }
 {
-    match fault {
-        CheckFault::Form(at) => write_line(notes, &[Text(b"checkpoint 1 Form "), Number(*at)]),
-        CheckFault::Problem(wrong) => write_problem(notes, b"checkpoint 2 Problem ", wrong),
-        CheckFault::Calling(at) => write_line(
-            notes,
-            &[Text(b"checkpoint 3 Calling "), Number(*at)],
-        ),
-        CheckFault::NodeLong(at) => write_line(
-            notes,
-            &[Text(b"checkpoint 4 NodeLong "), Number(*at)],
-        ),
-        CheckFault::NotKept(at) => write_line(
-            notes,
-            &[Text(b"checkpoint 5 NotKept "), Number(*at)],
-        ),
-        CheckFault::FoundOrder(at) => write_line(
-            notes,
-            &[Text(b"checkpoint 6 FoundOrder "), Number(*at)],
-        ),
-        CheckFault::Overlap(earlier, at) => write_line(
-            notes,
-            &[
-                Text(b"checkpoint 7 Overlap "),
-                Number(*earlier),
-                Text(b" "),
-                Number(*at),
-            ],
-        ),
-        CheckFault::NoMemory => write_line(notes, &[Text(b"checkpoint 8 NoMemory")]),
-    }
+    write_text(notes, b"ringsearch: checkpoint ")?;
+    end_check(notes, fault)
+}
+
+// Appends the line of why shards can't be joined.
+fn write_join<N: Sink>(notes: &mut N, fault: &JoinFault) -> Result<(), WriteFault>
+    ensures { IsWritten N.grew N.faults notes.old notes.new result (line (codes "join " ++ join_words fault.now)) }
+{
+    write_text(notes, b"ringsearch: join ")?;
+    end_join(notes, fault)
 }
 
 // Appends the line of why a text has no last block: its number, its name and its details.
@@ -303,13 +326,14 @@ fn write_status<N: Sink>(notes: &mut N, status: &Status) -> Result<(), WriteFaul
             notes,
             &[Text(b"stopped after "), Number(*turns), Text(b" turns")],
         ),
-        Status::Problem(fault) => write_problem(notes, b"problem ", fault),
+        Status::Problem(fault) => write_problem(notes, fault),
         Status::Checkpoint(fault) => write_check(notes, fault),
         Status::ReadFault => write_line(notes, &[Text(b"read failed")]),
         Status::WriteFault => write_line(notes, &[Text(b"write failed")]),
         Status::NoMemory => write_line(notes, &[Text(b"no memory")]),
         Status::TooLong => write_line(notes, &[Text(b"input too long")]),
         Status::Trail(fault) => write_trail(notes, *fault),
+        Status::Join(fault) => write_join(notes, fault),
     }
 }
 

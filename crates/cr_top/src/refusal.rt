@@ -2,12 +2,13 @@
 
 ghost use Rattle.std.specs.Prelude.{◌≡◌};
 ghost use Rattle.cr_top.specs.Endings.{status_of};
-ghost use Rattle.cr_top.specs.Refused.{trail_result};
+ghost use Rattle.cr_top.specs.Refused.{join_refusal, trail_result};
 
 use crate::Status;
 use cr_io::{ReadEnd, WriteFault};
 use cr_model::ProblemFault;
 use cr_row::NoMemory;
+use cr_shard::JoinFault;
 use cr_store::CheckFault;
 use cr_trail::{TrailEnd, TrailFault};
 use cr_words::WordsFault;
@@ -23,6 +24,7 @@ pub enum Refusal {
     NoMemory,
     TooLong,
     Trail(TrailFault),
+    Join(JoinFault),
 }
 
 impl From<NoMemory> for Refusal {
@@ -88,6 +90,7 @@ pub fn status_for(outcome: Result<Option<u64>, Refusal>) -> Status
         Err(Refusal::NoMemory) => Status::NoMemory,
         Err(Refusal::TooLong) => Status::TooLong,
         Err(Refusal::Trail(fault)) => Status::Trail(fault),
+        Err(Refusal::Join(fault)) => Status::Join(fault),
     }
 }
 
@@ -99,5 +102,15 @@ pub fn result_for(end: TrailEnd) -> Result<Option<u64>, Refusal>
         TrailEnd::Done => Ok(None),
         TrailEnd::WriteFault => Err(Refusal::WriteFault),
         TrailEnd::NoMemory => Err(Refusal::NoMemory),
+    }
+}
+
+/// The refusal of shards that were not joined for this reason.
+pub fn refusal_for(fault: JoinFault) -> Refusal
+    ensures { result ≡ join_refusal fault }
+{
+    match fault {
+        JoinFault::NoMemory => Refusal::NoMemory,
+        _ => Refusal::Join(fault),
     }
 }

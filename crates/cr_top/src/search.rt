@@ -20,7 +20,6 @@ use crate::gate::{Gate, Gated};
 use crate::preparing::prepare;
 use crate::refusal::{Refusal, status_for};
 use crate::searching::outcome_of;
-use crate::start::Start;
 use crate::writing::write_beside;
 use cr_io::{Sink, Source};
 use cr_model::Problem;
@@ -78,17 +77,13 @@ fn searched_alone<R: AllocGlobal + Threads + Sync, S: Source, K: Sink, G: Gate +
     ensures sink_later { K.faults sink.old ≤ K.faults sink.new }
 {
     let prepared = prepare(rt, source)?;
-    let Start {
-        bytes,
-        problem,
-        left,
-    } = prepared.start;
+    let start = prepared.start;
     let gated = Gated {
         explorer: &prepared.search,
         gate,
     };
-    let went = run_by_one(rt.alloc(), &gated, left, turns)?;
-    write_search(rt, 1, &problem, &bytes, went, turns, sink)
+    let went = run_by_one(rt.alloc(), &gated, start.left, turns)?;
+    write_search(rt, 1, &start.problem, &start.bytes, went, turns, sink)
 }
 
 /// The search by so many workers, who may wait for one another: after how many turns it stopped, or why it was not done.
@@ -113,17 +108,13 @@ pub fn searched_together<
     ensures sink_later { K.faults sink.old ≤ K.faults sink.new }
 {
     let prepared = prepare(rt, source)?;
-    let Start {
-        bytes,
-        problem,
-        left,
-    } = prepared.start;
+    let start = prepared.start;
     let gated = Gated {
         explorer: &prepared.search,
         gate,
     };
-    let went = run_by(rt, workers, &gated, left, turns)?;
-    write_search(rt, workers, &problem, &bytes, went, turns, sink)
+    let went = run_by(rt, workers, &gated, start.left, turns)?;
+    write_search(rt, workers, &start.problem, &start.bytes, went, turns, sink)
 }
 
 // Writes the text that belongs to an input whose search went on so far.

@@ -4,6 +4,7 @@ ghost use Rattle.std.specs.Prelude.{◌≡◌};
 ghost use Rattle.cr_top.specs.Codes.{code_of};
 
 use cr_model::ProblemFault;
+use cr_shard::JoinFault;
 use cr_store::CheckFault;
 use cr_trail::TrailFault;
 use cr_words::WordsFault;
@@ -11,7 +12,8 @@ use cr_words::WordsFault;
 /// How a call of the program ended.
 #[derive(Debug, Drop)]
 pub enum Status {
-    /// The book, the summary of a made problem, the trail or its last checkpoint was written whole.
+    /// The book, the summary of a made problem, the trail, its last checkpoint, the shards of an input or these joined were
+    /// written whole.
     Finished,
     /// The words of the command line are not accepted: the first that is wrong.
     Words(WordsFault),
@@ -31,6 +33,8 @@ pub enum Status {
     TooLong,
     /// The input has no last block: it is not of blocks, or no block is whole.
     Trail(TrailFault),
+    /// The input can't be joined: the first check of its blocks that does not hold.
+    Join(JoinFault),
 }
 
 impl Status {
@@ -49,6 +53,7 @@ impl Status {
             Status::NoMemory => 8,
             Status::TooLong => 9,
             Status::Trail(_) => 10,
+            Status::Join(_) => 11,
         }
     }
 }

@@ -5,13 +5,15 @@ ghost use Rattle.cr_io.specs.Causes.{Rose};
 ghost use Rattle.cr_model.specs.Problems.{ProblemParts};
 ghost use Rattle.cr_model.specs.Sizes.{most_rows, size_of_all};
 ghost use Rattle.cr_model.specs.Inputs.{Input};
+ghost use Rattle.cr_shard.specs.JoinFaults.{IsJoin};
 ghost use Rattle.cr_trail.specs.Lasts.{IsLast};
 ghost use Rattle.cr_words.specs.Commands.{texts_of};
 ghost use Rattle.cr_words.specs.Readings.{IsAccepted, IsWordsFaultOf};
 ghost use Rattle.cr_trail.specs.Runs.{KeepsTo};
 ghost use Rattle.cr_top.specs.Lines.{note_line};
 ghost use Rattle.cr_top.specs.Noted.{AppendsFront};
-ghost use Rattle.cr_top.specs.Endings.{AsksSearch, AsksMake, AsksTrail, AsksLast, EndsMake, EndsWish, Ends, HasTurns, IsDue, IsLastDue, status_of};
+ghost use Rattle.cr_top.specs.Endings.{AsksSearch, AsksMake, AsksTrail, AsksLast, AsksCut, AsksJoin, EndsMake, EndsWish, Ends};
+ghost use Rattle.cr_top.specs.Endings.{HasTurns, HasShards, IsDue, IsLastDue, IsJoinDue, status_of};
 
 use crate::Status;
 use crate::answers::inputs_have_one_answer;
@@ -21,8 +23,10 @@ use crate::making::summary_for;
 use crate::notes::write_note;
 use crate::refusal::{Refusal, status_for};
 use crate::search::{search_alone, searched_together};
+use crate::sharding::{cut_written, join_written};
 use crate::trailing::{trail_alone, trailed_together};
 use cr_io::{Sink, Source, write_whole};
+use cr_shard::laws::texts_have_one_answer;
 use cr_trail::last_laws::each_text_has_one_last_block;
 use cr_words::laws::{words_are_accepted_or_have_a_fault, words_read_as_one_wish};
 use cr_words::{Mode, Wish, WordsFault, read_words};
@@ -31,7 +35,8 @@ use std::thread::Threads;
 
 /// Does all that the program does: reads an input from the source, searches it, and writes its book or, after the turns
 /// that are allowed, a checkpoint to the sink, or a trail of checkpoints; or writes the last whole checkpoint of what is
-/// left of a trail; or makes a problem of a number and writes its summary.
+/// left of a trail; or cuts an input into shards, which are checkpoints that can be searched apart, or joins such; or
+/// makes a problem of a number and writes its summary.
 ///
 /// Nothing is written before the whole text is made, but that of a trail is written block by block. Each status but
 /// `Finished` writes its line to the notes; a fault of theirs ends the line and changes no status. Each exploration of an
@@ -84,6 +89,25 @@ pub fn ringsearch<
         (input : List ℕ) → S.left source.old ≡ Some input → (due : Status) → IsLastDue input due →
         (Rose (S.faults source.old) (S.faults source.new) → ⊥) →
         (result ≡ due) ⊎ (result ≡ Status.NoMemory) }
+    ensures cuts { (into : ℕ) → AsksCut (texts_of words.now) into →
+        (input bytes : List ℕ) (p : ProblemParts) (found nodes : List (List ℕ)) →
+        S.left source.old ≡ Some input → length input ≤ 2 ^ 40 → Input input bytes p found nodes →
+        (Rose (S.faults source.old) (S.faults source.new) → ⊥) →
+        (Rose (K.faults sink.old) (K.faults sink.new) → ⊥) →
+        (result ≡ Status.Finished) ⊎ (result ≡ Status.NoMemory) }
+    ensures refuses_cut { (into : ℕ) → AsksCut (texts_of words.now) into →
+        (input : List ℕ) → S.left source.old ≡ Some input → (due : Status) → IsDue input due →
+        (Rose (S.faults source.old) (S.faults source.new) → ⊥) →
+        (result ≡ due) ⊎ (result ≡ Status.NoMemory) }
+    ensures joins { AsksJoin (texts_of words.now) → (input joined : List ℕ) →
+        S.left source.old ≡ Some input → length input ≤ 2 ^ 40 → IsJoin input joined →
+        (Rose (S.faults source.old) (S.faults source.new) → ⊥) →
+        (Rose (K.faults sink.old) (K.faults sink.new) → ⊥) →
+        (result ≡ Status.Finished) ⊎ (result ≡ Status.NoMemory) }
+    ensures refuses_join { AsksJoin (texts_of words.now) →
+        (input : List ℕ) → S.left source.old ≡ Some input → (due : Status) → IsJoinDue input due →
+        (Rose (S.faults source.old) (S.faults source.new) → ⊥) →
+        (result ≡ due) ⊎ (result ≡ Status.NoMemory) }
     ensures makes { (number : ℕ) → AsksMake (texts_of words.now) number →
         (Rose (K.faults sink.old) (K.faults sink.new) → ⊥) →
         (result ≡ Status.Finished) ⊎ (result ≡ Status.NoMemory) }
@@ -99,6 +123,7 @@ pub fn ringsearch<
     words_are_accepted_or_have_a_fault();
     inputs_have_one_answer();
     each_text_has_one_last_block();
+    texts_have_one_answer();
     let status = ended(rt, words, source, sink, gate);
     write_note(notes, &status);
     status
@@ -136,6 +161,7 @@ fn carried_out<R: AllocGlobal + Threads + Wait + Sync, S: Source, K: Sink, G: Ga
     requires some_workers { 1 ≤ wish.workers }
     requires few_workers { wish.workers ≤ 64 }
     requires some_turns { HasTurns wish.mode }
+    requires some_shards { HasShards wish.mode }
     ensures ends { EndsWish (record { took = S.took; left = S.left; faults = S.faults; old = source.old; new = source.new })
         (record { grew = K.grew; faults = K.faults; old = sink.old; new = sink.new }) wish.mode wish.turns result }
     ensures source_later { S.faults source.old ≤ S.faults source.new }
@@ -162,6 +188,8 @@ fn carried_out<R: AllocGlobal + Threads + Wait + Sync, S: Source, K: Sink, G: Ga
             gate,
         )),
         Mode::Last => status_for(last_written(rt.alloc(), source, sink)),
+        Mode::Cut(into) => status_for(cut_written(rt.alloc(), into, source, sink)),
+        Mode::Join => status_for(join_written(rt.alloc(), source, sink)),
     }
 }
 

@@ -72,7 +72,7 @@ fn trailed_alone<R: AllocGlobal + Threads + Sync, S: Source, K: Sink, G: Gate + 
         explorer: &prepared.search,
         gate,
     };
-    let end = trail_by_one(rt.alloc(), &gated, &bytes, left, every, sink);
+    let end = trail_by_one(rt, &gated, &bytes, left, every, sink);
     result_for(end)
 }
 

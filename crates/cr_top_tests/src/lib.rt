@@ -10,6 +10,8 @@ mod fault_tests;
 #[cfg(test)]
 mod notes_tests;
 #[cfg(test)]
+mod shard_tests;
+#[cfg(test)]
 mod stop_tests;
 #[cfg(test)]
 mod test_calls;

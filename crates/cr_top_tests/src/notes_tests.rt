@@ -3,8 +3,9 @@
 use cr_io::{MemSink, SureSink};
 use cr_model::ProblemFault::*;
 use cr_model::{CountAt, KeyPath, NotationFault, Whose};
+use cr_shard::JoinFault;
 use cr_store::CheckFault;
-use cr_top::Status::{self, Checkpoint, Problem, Words};
+use cr_top::Status::{self, Checkpoint, Join, Problem, Words};
 use cr_top::write_note;
 use cr_trail::TrailFault;
 use cr_words::WordsFault::{self, Line, Mixed, Mode, Number, Turns, Workers};
@@ -19,7 +20,7 @@ fn holds(line: &'static str, note: Option<&[u8]>) -> Result<(), Fail> {
     }
 }
 
-const STATUSES: [(Status, u8, &str); 19] = [
+const STATUSES: [(Status, u8, &str); 21] = [
     (Status::Finished, 0, ""),
     (Words(Line), 2, "ringsearch: words 1 Line\n"),
     (Words(Workers), 2, "ringsearch: words 2 Workers\n"),
@@ -33,6 +34,7 @@ const STATUSES: [(Status, u8, &str); 19] = [
         "ringsearch: words 7 NoMemory\n",
     ),
     (Words(WordsFault::Every), 2, "ringsearch: words 8 Every\n"),
+    (Words(WordsFault::Into), 2, "ringsearch: words 9 Into\n"),
     (Status::Stopped(0), 3, "ringsearch: stopped after 0 turns\n"),
     (
         Status::Stopped(9_223_372_036_854_775_807),
@@ -59,6 +61,11 @@ const STATUSES: [(Status, u8, &str); 19] = [
         10,
         "ringsearch: trail 2 Nothing\n",
     ),
+    (
+        Join(JoinFault::Blocks(0)),
+        11,
+        "ringsearch: join 2 Blocks 0\n",
+    ),
 ];
 
 #[test]
@@ -74,7 +81,7 @@ fn each_status_has_its_number_and_its_line(rt: HostRuntime) -> Result<(), Fail> 
     Ok(())
 }
 
-const FAULTS: [(Status, &str); 39] = [
+const FAULTS: [(Status, &str); 46] = [
     (Problem(Stage(17)), "ringsearch: problem 3 Stage 17\n"),
     (Problem(Stage(-10)), "ringsearch: problem 3 Stage -10\n"),
     (Problem(Letter(1)), "ringsearch: problem 4 Letter 1\n"),
@@ -189,6 +196,28 @@ const FAULTS: [(Status, &str); 39] = [
         Checkpoint(CheckFault::NoMemory),
         "ringsearch: checkpoint 8 NoMemory\n",
     ),
+    (Join(JoinFault::Form(399)), "ringsearch: join 1 Form 399\n"),
+    (
+        Join(JoinFault::Blocks(1025)),
+        "ringsearch: join 2 Blocks 1025\n",
+    ),
+    (
+        Join(JoinFault::Check(12, CheckFault::Overlap(17, 18))),
+        "ringsearch: join 3 Check 12 7 Overlap 17 18\n",
+    ),
+    (
+        Join(JoinFault::Check(0, CheckFault::Problem(Stage(17)))),
+        "ringsearch: join 3 Check 0 2 Problem 3 Stage 17\n",
+    ),
+    (
+        Join(JoinFault::OtherProblem(1, 8)),
+        "ringsearch: join 4 OtherProblem 1 8\n",
+    ),
+    (
+        Join(JoinFault::Overlap(0, 1)),
+        "ringsearch: join 5 Overlap 0 1\n",
+    ),
+    (Join(JoinFault::NoMemory), "ringsearch: join 6 NoMemory\n"),
 ];
 
 #[test]
@@ -225,17 +254,16 @@ fn paths_are_shown(rt: HostRuntime) -> Result<(), Fail> {
     Ok(())
 }
 
-// Which write fails, how many bytes a write takes, and what was written before: the pieces of the line are its head,
+// Which write fails, how many bytes a write takes, and what was written before: the pieces of the line are its head with
 // the word of its status, the fault's name, its number, and the line feed.
 const BROKEN: &[(u64, u64, &str)] = &[
     (1, 100, ""),
     (1, 3, ""),
     (2, 3, "rin"),
-    (2, 100, "ringsearch: "),
-    (3, 100, "ringsearch: problem "),
-    (4, 100, "ringsearch: problem 3 Stage "),
-    (5, 100, "ringsearch: problem 3 Stage 17"),
-    (6, 100, "ringsearch: problem 3 Stage 17\n"),
+    (2, 100, "ringsearch: problem "),
+    (3, 100, "ringsearch: problem 3 Stage "),
+    (4, 100, "ringsearch: problem 3 Stage 17"),
+    (5, 100, "ringsearch: problem 3 Stage 17\n"),
 ];
 
 #[test]

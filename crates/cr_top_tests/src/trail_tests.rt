@@ -13,8 +13,14 @@ use std::sync::Wait;
 use std::test::Fail;
 use std::thread::Threads;
 
-// The trail of Plain Bob Minimus with a checkpoint after each two turns.
-const TRAIL: &str = "block 147
+// The blocks of a trail of Plain Bob Minimus: of each its size, and the lines of its checkpoint after the problem.
+macro_rules! trail {
+    ($($size:literal, $lines:literal;)*) => {
+        concat!(
+            $(
+                "block ",
+                $size,
+                "
 ringsearch checkpoint 2
 problem 82
 stage = 4
@@ -25,43 +31,19 @@ notation = \"x14x14,12\"
 min = 1
 max = 24
 
-found 0
-jobs 1
-job 1
-0 -
-end
-block 148
-ringsearch checkpoint 2
-problem 82
-stage = 4
-[[method]]
-letter = \"A\"
-notation = \"x14x14,12\"
-[query]
-min = 1
-max = 24
+",
+                $lines,
+            )*
+        )
+    };
+}
 
-found 0
-jobs 1
-job 1
-0 pp
-end
-block 144
-ringsearch checkpoint 2
-problem 82
-stage = 4
-[[method]]
-letter = \"A\"
-notation = \"x14x14,12\"
-[query]
-min = 1
-max = 24
-
-found 1
-24 ppp
-jobs 0
-end
-";
+// The trail with a checkpoint after each two turns.
+const TRAIL: &str = trail! {
+    147, "found 0\njobs 1\njob 1\n0 -\nend\n";
+    148, "found 0\njobs 1\njob 1\n0 pp\nend\n";
+    144, "found 1\n24 ppp\njobs 0\nend\n";
+};
 
 const BOOK: &str = "24 ppp\ntouches 1\n";
 
@@ -226,8 +208,9 @@ fn a_sink_fails_at_each_byte_of_the_last_block(rt: HostRuntime) -> Result<(), Fa
     fails_at_each_byte(&rt, 316, 470)
 }
 
-// No run writes as often as this to a sink that takes all at once.
-const WRITES: u64 = 8;
+// No run writes as often as this to a sink that takes all at once: the first block by two writes, the second by three, and
+// the last, with its touch, by four.
+const WRITES: u64 = 10;
 
 #[test]
 fn a_sink_fails_at_each_write(rt: HostRuntime) -> Result<(), Fail> {
@@ -367,7 +350,7 @@ fn falls_by_three<R: AllocGlobal + Threads + Wait + Sync>(
 
 #[test]
 fn trails_of_doubles(rt: HostRuntime) -> Result<(), Fail> {
-    for workers in ["1", "2"] {
+    for workers in ["1", "2", "64"] {
         let (code, trail) = answered(
             &rt,
             &["--every", "3", "--workers", workers],

@@ -45,11 +45,11 @@ book_found whole once p found jobs now left used way none book same up =
         omega (arith, nothing, way.nodes.each calling kept)
 
 -- what the law on partitions says of their beginning, and of one after another
-abbrev Begun : Type 0
+abbrev pub Begun : Type 0
 Begun = (p : ProblemParts) (found nodes : List (List ℕ)) → All (Kept p) found → All (IsValid p) nodes → Independent p found nodes
     → IsPartition p found nodes found nodes 0
 
-abbrev Onward : Type 0
+abbrev pub Onward : Type 0
 Onward = (p : ProblemParts) (found nodes now left more rest : List (List ℕ)) (spent used : ℕ) → IsPartition p found nodes now left spent
     → IsPartition p [] left more rest used → IsPartition p found nodes (now ++ more) rest (spent + used)
 
@@ -75,6 +75,16 @@ can_open p found jobs now left used way = record {
   filled = way.filled;
   valid = way.nodes.valid;
   independent = record { nodes_apart = way.nodes.independent.nodes_apart; found_apart = λ i j inside within. absurd (omega arith) };
+}
+
+-- so it is where nothing was searched yet
+pub without_found : (p : ProblemParts) (found : List (List ℕ)) (jobs : List (List (List ℕ))) → CanGoOn p found jobs → CanGoOn p [] jobs
+without_found p found jobs on = record {
+  kept = All-nil (Kept p);
+  ascending = none_ascend (book_order p);
+  filled = on.filled;
+  valid = on.valid;
+  independent = record { nodes_apart = on.independent.nodes_apart; found_apart = λ i j inside within. absurd (omega arith) };
 }
 
 keeps_more : (turns : Option ℕ) (most used more : ℕ) → KeepsTo turns used → more ≤ board_turns (turns_after turns used) most

@@ -2,10 +2,10 @@ pub mod Reading
 pub mod Cutting
 pub mod OneLast
 pub mod Going
-pub mod Ordering
 pub mod Inputs
 pub mod Fronts
 pub mod Trailing
 pub mod Written
 pub mod Counting
 pub mod Resuming
+pub mod Ready

@@ -39,6 +39,12 @@ falls p sound of_node of_first none found jobs every now left turns on some went
 
 module _ {K : Type 0} (grew : K → K → List ℕ → Type 0) (faults : K → ℕ) (chains : (a b c : K) (x y : List ℕ) → grew a b x → grew b c y → grew a c (x ++ y))
     (p : ProblemParts) (bytes : List ℕ) (file : ProblemFile bytes p) (found : List (List ℕ)) (jobs : List (List (List ℕ))) (every : ℕ) (old : K) where
+  -- there was no memory for the first checkpoint
+  pub nothing_written : grew old old [] → (result : Result (Unit {0}) Unwritten) → IsErrAnd result (λ w. w ≡ unwritten.NoMemory)
+      → EndsTrail grew faults old old p bytes found jobs every (end_of result)
+  nothing_written starts (Ok done) same = absurd same
+  nothing_written starts (Err w) same = subst (λ w. EndsTrail grew faults old old p bytes found jobs every (end_of (Err w))) (sym same) ([], inl refl, starts, refl)
+
   -- nothing was written yet
   pub not_begun : grew old old [] → CanGoOn p found jobs → WroteSoFar grew faults old old p bytes found jobs every found jobs
   not_begun starts on = record { trail = []; under_way = begins p bytes file found jobs every on; grown = starts; calm = refl }
@@ -65,10 +71,12 @@ module _ {K : Type 0} (grew : K → K → List ℕ → Type 0) (faults : K → �
       ap faults is ∙ so_far.calm,
     )
 
-    pub refused_as : (why : Unwritten) (result : Result (Unit {0}) Unwritten) → WritesBlock grew faults mid new text (Err why)
+    pub refused_as : (body : List ℕ) (why : Unwritten) (result : Result (Unit {0}) Unwritten) → body ≡ text → WritesBlock grew faults mid new body (Err why)
         → IsErrAnd result (λ w. w ≡ why) → EndsTrail grew faults old new p bytes found jobs every (end_of result)
-    refused_as why (Ok done) is same = absurd same
-    refused_as why (Err w) is same = subst (λ w. EndsTrail grew faults old new p bytes found jobs every (end_of (Err w))) (sym same) (refused why is)
+    refused_as body why (Ok done) is wrote same = absurd same
+    refused_as body why (Err w) is wrote same =
+        subst (λ w. EndsTrail grew faults old new p bytes found jobs every (end_of (Err w))) (sym same)
+        (refused why (subst (λ t. WritesBlock grew faults mid new t (Err why)) is wrote))
 
     module _ (is : WritesBlock grew faults mid new text (Ok tt)) where
       grown : grew old new (blocks longer)

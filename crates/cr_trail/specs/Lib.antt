@@ -4,4 +4,3 @@ pub mod Runs
 pub mod Trails
 pub mod Taken
 pub mod Writing
-pub mod Orders

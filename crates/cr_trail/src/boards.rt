@@ -70,7 +70,7 @@ pub fn run_boards<R: Runner>(
 }
 
 // Moves what a board found behind what was found before. Where that is nothing, its list is taken as it is.
-fn put_behind(found: &mut Vec<Calling>, mut more: Vec<Calling>) -> Result<(), NoMemory>
+pub(crate) fn put_behind(found: &mut Vec<Calling>, mut more: Vec<Calling>) -> Result<(), NoMemory>
     ensures { OnOk result (found.new.items ≡ found.old.items ++ more.items) }
 {
     if found.is_empty() {

@@ -11,7 +11,7 @@
 //! ```rust
 //! let call = |opening: Opening| run_alone(alloc, Board::open(alloc, opening)?, &explorer);
 //! let runner = ByCall { problem: &problem, call };
-//! let end = run_trail(alloc, 1, &runner, &bytes, left, 100_000_000, &mut sink);
+//! let end = run_trail(rt, 1, &runner, &bytes, left, 100_000_000, &mut sink);
 //!
 //! // Of a text that was cut anywhere.
 //! let last = last_block(sink.bytes().unwrap_or_default());
@@ -22,7 +22,6 @@ mod boards;
 mod last;
 pub mod last_laws;
 pub mod laws;
-mod order;
 mod runner;
 #[cfg(test)]
 mod tests;

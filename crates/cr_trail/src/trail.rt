@@ -1,26 +1,36 @@
 //! A search that writes a checkpoint after each so many turns.
 
-ghost use Rattle.std.specs.Prelude.{◌≡◌, ◌≤◌, ◌↔◌, ◌++◌, [], IsTrue, IfOk, OnOk, OnErr, codes};
+ghost use Rattle.std.specs.Prelude.{◌≡◌, ◌<◌, ◌≤◌, ◌↔◌, ◌++◌, ℕ, List, [], Some, length, IsTrue, All, IfOk, OnOk, OnErr, codes};
+ghost use Rattle.std.specs.List.Sorted.{IsPermutation};
 ghost use Rattle.cr_io.specs.Causes.{Rose};
-ghost use Rattle.cr_io.specs.Grown.{GrowsByFront};
-ghost use Rattle.cr_model.specs.Checkpoints.{CanGoOn, checkpoint_text, number_line};
+ghost use Rattle.cr_io.specs.Grown.{GrowsByFront, joined};
+ghost use Rattle.cr_model.specs.Callings.{HasSteps};
+ghost use Rattle.cr_model.specs.Checkpoints.{CanGoOn, checkpoint_text, nodes_of_jobs, number_line};
 ghost use Rattle.cr_model.specs.ProblemFiles.{ProblemFile};
 ghost use Rattle.cr_run.specs.Runs.{IsRun};
 ghost use Rattle.cr_store.specs.Blocks.{IsBody};
-ghost use Rattle.cr_store.specs.Written.{lists};
+ghost use Rattle.cr_model.specs.Texts.{IsNumber};
+ghost use Rattle.cr_store.specs.Written.{lists, IsTextOfLeft};
 ghost use Rattle.cr_trail.specs.Trails.{EndsTrail};
-ghost use Rattle.cr_trail.specs.Writing.{WritesBlock, WentBy, end_of};
+ghost use Rattle.cr_trail.specs.Writing.{IsReady, IsReadyAfter, RunsOn, WritesBlock, end_of};
 
-use crate::boards::{BOARD_TURNS, run_boards};
-use crate::order::in_order;
+use crate::boards::{BOARD_TURNS, RunProgress, put_behind, run_boards};
 use crate::runner::Runner;
-use cr_io::{Sink, WriteFault, write_whole};
-use cr_model::Problem;
+use cr_board::laws::{each_touch_stands_once, partitions_follow_one_another};
+use cr_book::BookPieces;
+use cr_book::laws::what_is_sorted_is_the_book;
+use cr_io::{Sink, WriteFault, write_pieces, write_whole};
 use cr_model::laws::sizes_are_sums;
+use cr_model::{Calling, Problem};
+use cr_node::Node;
 use cr_row::NoMemory;
-use cr_store::{Remaining, write_parts};
+use cr_store::{Remaining, checkpoint_pieces, write_parts};
 use itoa::Buffer;
 use std::alloc::Global;
+use std::thread::Threads;
+
+// No block has more bytes, 2^63 - 1.
+const MOST_BYTES: u64 = 9_223_372_036_854_775_807;
 
 /// How a trail ended.
 #[derive(Clone, Copy, Debug, PartialEq, Eq, Drop)]
@@ -61,12 +71,13 @@ impl From<NoMemory> for Unwritten {
 }
 
 /// Goes on with a search, and writes its trail: a checkpoint at the start, after each `every` turns, and at the end, where
-/// no node is left. Each is written as a block as soon as it is made, and then let go; so is what was found put in order
-/// in its place. What is held at once is what was found, the nodes that are left, one board, and one checkpoint's text.
+/// no node is left. Each is written as a block as soon as it is made, and then let go. The lines of what was found are put
+/// in order and written by as many threads as there are workers; what was found is itself left in the order in which it
+/// came. What is held at once is what was found, the nodes that are left, one board, and one checkpoint's text.
 ///
 /// `WriteFault` comes only where the sink's count of faults rose in this call, and `NoMemory` between two blocks.
-pub fn run_trail<R: Runner, K: Sink>(
-    alloc: Global,
+pub fn run_trail<T: AllocGlobal + Threads + Sync, R: Runner, K: Sink>(
+    rt: &T,
     workers: u32,
     runner: &R,
     problem_bytes: &[u8],
@@ -85,7 +96,7 @@ pub fn run_trail<R: Runner, K: Sink>(
         left.found.items (lists left.jobs.items) every result }
     ensures later { K.faults sink.old ≤ K.faults sink.new }
 {
-    match write_trail(alloc, workers, runner, problem_bytes, left, every, sink) {
+    match write_trail(rt, workers, runner, problem_bytes, left, every, sink) {
         Ok(()) => TrailEnd::Done,
         Err(Unwritten::WriteFault) => TrailEnd::WriteFault,
         Err(Unwritten::NoMemory) => TrailEnd::NoMemory,
@@ -93,8 +104,8 @@ pub fn run_trail<R: Runner, K: Sink>(
 }
 
 // The same, with what ended it before its last checkpoint as an error.
-fn write_trail<R: Runner, K: Sink>(
-    alloc: Global,
+fn write_trail<T: AllocGlobal + Threads + Sync, R: Runner, K: Sink>(
+    rt: &T,
     workers: u32,
     runner: &R,
     problem_bytes: &[u8],
@@ -115,32 +126,50 @@ fn write_trail<R: Runner, K: Sink>(
 {
     sizes_are_sums();
     let _ = runner.problem().stage();
-    let mut left = left;
+    let mut ready = first_ready(rt.alloc(), runner, problem_bytes, left)?;
     loop {
-        write_checkpoint(alloc, runner, problem_bytes, &left, sink)?;
-        if is_done(&left) {
+        let Ready { pieces, now } = ready;
+        write_block(rt.alloc(), pieces, sink)?;
+        if is_done(&now.left) {
             return Ok(());
         }
-        left = after_turns(alloc, workers, runner, left, every)?;
+        ready = after_turns(rt, workers, runner, problem_bytes, now, every)?;
     }
 }
 
-// Writes the checkpoint of what is left as a block.
-fn write_checkpoint<R: Runner, K: Sink>(
+// A checkpoint that is to be written, in pieces, and where the search is meanwhile.
+#[derive(Drop)]
+struct Ready {
+    pieces: Vec<Vec<u8>>,
+    now: RunProgress,
+}
+
+// The first checkpoint.
+fn first_ready<R: Runner>(
     alloc: Global,
     runner: &R,
     problem_bytes: &[u8],
-    left: &Remaining,
-    sink: &mut K,
-) -> Result<(), Unwritten>
+    left: Remaining,
+) -> Result<Ready, NoMemory>
     requires file { ProblemFile problem_bytes.now (R.searches runner.now) }
-    requires goes_on { CanGoOn (R.searches runner.now) left.now.found.items (lists left.now.jobs.items) }
-    ensures writes { WritesBlock K.grew K.faults sink.old sink.new
-        (checkpoint_text (R.searches runner.now) problem_bytes.now left.now.found.items (lists left.now.jobs.items)) result }
-    ensures later { K.faults sink.old ≤ K.faults sink.new }
+    requires goes_on { CanGoOn (R.searches runner.now) left.found.items (lists left.jobs.items) }
+    ensures text { IfOk result (λ ready. joined ready.pieces.items
+        ≡ checkpoint_text (R.searches runner.now) problem_bytes.now left.found.items (lists left.jobs.items)) }
+    ensures same { IfOk result (λ ready. ready.now.left ≡ left) }
 {
-    let text = text_of(alloc, runner.problem(), problem_bytes, left)?;
-    write_block(alloc, text, sink)
+    let text = write_parts(
+        alloc,
+        runner.problem(),
+        problem_bytes,
+        &left.found,
+        &left.jobs,
+    )?;
+    let mut pieces = Vec::with_capacity(alloc, 1)?;
+    pieces.push(text)?;
+    let mut handed = Vec::with_capacity(alloc, 1)?;
+    handed.push(left.found.len() as u64)?;
+    let now = RunProgress { left, handed };
+    Ok(Ready { pieces, now })
 }
 
 // Whether no job is left.
@@ -150,43 +179,42 @@ fn is_done(left: &Remaining) -> bool
     left.jobs.is_empty()
 }
 
-// The checkpoint of what is left.
-fn text_of(
-    alloc: Global,
-    problem: &Problem,
-    problem_bytes: &[u8],
-    left: &Remaining,
-) -> Result<Vec<u8>, NoMemory>
-    requires file { ProblemFile problem_bytes.now problem.now }
-    requires goes_on { CanGoOn problem.now left.now.found.items (lists left.now.jobs.items) }
-    ensures is { IfOk result (λ text. text.items ≡ checkpoint_text problem.now problem_bytes.now left.now.found.items (lists left.now.jobs.items)) }
-    ensures body { IfOk result (λ text. IsBody text.items) }
-{
-    let text = write_parts(alloc, problem, problem_bytes, &left.found, &left.jobs)?;
-    Ok(text)
-}
-
 // Writes a body as a block, and lets it go.
-fn write_block<K: Sink>(alloc: Global, body: Vec<u8>, sink: &mut K) -> Result<(), Unwritten>
-    requires { IsBody body.items }
-    ensures writes { WritesBlock K.grew K.faults sink.old sink.new body.items result }
+fn write_block<K: Sink>(alloc: Global, body: Vec<Vec<u8>>, sink: &mut K) -> Result<(), Unwritten>
+    requires { 0 < length (joined body.items) }
+    ensures writes { WritesBlock K.grew K.faults sink.old sink.new (joined body.items) result }
     ensures later { K.faults sink.old ≤ K.faults sink.new }
 {
-    let line = size_line(alloc, body.len() as u64)?;
+    let size = size_of(&body)?;
+    let line = size_line(alloc, size)?;
     write_both(&line, &body, sink)?;
     Ok(())
 }
 
+// How many bytes pieces have. Err where there are more than a block has: no memory holds them.
+fn size_of(pieces: &[Vec<u8>]) -> Result<u64, NoMemory>
+    ensures { IfOk result (λ size. (size ≡ length (joined pieces.now)) × IsNumber size) }
+{
+    let mut size: u64 = 0;
+    for piece in pieces {
+        size += piece.len() as u64;
+        if size > MOST_BYTES {
+            return Err(NoMemory);
+        }
+    }
+    Ok(size)
+}
+
 // Writes the line of a block and then its body.
-fn write_both<K: Sink>(line: &[u8], body: &[u8], sink: &mut K) -> Result<(), WriteFault>
-    ensures whole { OnOk result (K.grew sink.old sink.new (line.now ++ body.now)) }
-    ensures front { OnErr result (GrowsByFront K.grew sink.old sink.new (line.now ++ body.now)) }
+fn write_both<K: Sink>(line: &[u8], body: &[Vec<u8>], sink: &mut K) -> Result<(), WriteFault>
+    ensures whole { OnOk result (K.grew sink.old sink.new (line.now ++ joined body.now)) }
+    ensures front { OnErr result (GrowsByFront K.grew sink.old sink.new (line.now ++ joined body.now)) }
     ensures fault { OnErr result (Rose (K.faults sink.old) (K.faults sink.new)) }
     ensures later { K.faults sink.old ≤ K.faults sink.new }
     ensures same { OnOk result (K.faults sink.new ≡ K.faults sink.old) }
 {
     write_whole(sink, line)?;
-    write_whole(sink, body)
+    write_pieces(sink, body)
 }
 
 // The line of a block before a body of so many bytes.
@@ -201,22 +229,77 @@ fn size_line(alloc: Global, size: u64) -> Result<Vec<u8>, NoMemory>
     Ok(line)
 }
 
-// What is left of a search after so many turns, or where no node is left before, with what was found put in order.
-fn after_turns<R: Runner>(
-    alloc: Global,
+// The checkpoint after so many turns more, or after those that were left.
+fn after_turns<T: AllocGlobal + Threads + Sync, R: Runner>(
+    rt: &T,
     workers: u32,
     runner: &R,
-    left: Remaining,
+    problem_bytes: &[u8],
+    now: RunProgress,
     every: u64,
-) -> Result<Remaining, NoMemory>
-    requires goes_on { CanGoOn (R.searches runner.now) left.found.items (lists left.jobs.items) }
+) -> Result<Ready, NoMemory>
+    requires goes_on { (found : List (List ℕ)) × IsPermutation now.left.found.items found
+        × CanGoOn (R.searches runner.now) found (lists now.left.jobs.items) }
     requires some_workers { 1 ≤ workers }
     requires few_workers { workers ≤ 64 }
     requires may_run { (opening : _) → R.searches runner.now ≡ opening.problem → R.takes runner.now opening }
     requires runs { (opening : _) (board : _) → R.gives runner.now opening board → IfOk board (IsRun opening) }
-    ensures { IfOk result (λ now. WentBy (R.searches runner.now) left.found.items (lists left.jobs.items) every
-        now.found.items (lists now.jobs.items)) }
+    ensures { (found : List (List ℕ)) → IsPermutation now.left.found.items found
+        → CanGoOn (R.searches runner.now) found (lists now.left.jobs.items)
+        → IfOk result (λ ready. IsReadyAfter (R.searches runner.now) problem_bytes.now found (lists now.left.jobs.items) every
+        ready.now.left.found.items (lists ready.now.left.jobs.items) (joined ready.pieces.items)) }
 {
-    let went = run_boards(alloc, workers, runner, left, Some(every), BOARD_TURNS)?;
-    Ok(in_order(runner.problem(), went.left))
+    each_touch_stands_once();
+    partitions_follow_one_another();
+    what_is_sorted_is_the_book();
+    let RunProgress { left, handed } = run_on(rt.alloc(), workers, runner, now, every)?;
+    let Remaining { found, jobs } = left;
+    let BookPieces { pieces, spent } = checkpoint_pieces(
+        rt,
+        rt.alloc(),
+        workers as usize,
+        runner.problem(),
+        problem_bytes,
+        found,
+        &handed,
+        &jobs,
+    )?;
+    let left = Remaining { found: spent, jobs };
+    let now = RunProgress { left, handed };
+    Ok(Ready { pieces, now })
+}
+
+// Goes on with a search for so many turns, or until no job is left. What it finds comes behind what was found before, in
+// whatever order that is.
+fn run_on<R: Runner>(
+    alloc: Global,
+    workers: u32,
+    runner: &R,
+    before: RunProgress,
+    every: u64,
+) -> Result<RunProgress, NoMemory>
+    requires goes_on { CanGoOn (R.searches runner.now) [] (lists before.left.jobs.items) }
+    requires some_workers { 1 ≤ workers }
+    requires few_workers { workers ≤ 64 }
+    requires may_run { (opening : _) → R.searches runner.now ≡ opening.problem → R.takes runner.now opening }
+    requires runs { (opening : _) (board : _) → R.gives runner.now opening board → IfOk board (IsRun opening) }
+    ensures { IfOk result (λ now. RunsOn (R.searches runner.now) before.left.found.items (lists before.left.jobs.items) every
+        now.left.found.items (lists now.left.jobs.items)) }
+{
+    let RunProgress { left, mut handed } = before;
+    let Remaining { mut found, jobs } = left;
+    let rest = Remaining {
+        found: Vec::new(alloc),
+        jobs,
+    };
+    let went = run_boards(alloc, workers, runner, rest, Some(every), BOARD_TURNS)?;
+    let RunProgress {
+        left,
+        handed: mut more,
+    } = went;
+    let Remaining { found: new, jobs } = left;
+    put_behind(&mut found, new)?;
+    handed.append(&mut more)?;
+    let left = Remaining { found, jobs };
+    Ok(RunProgress { left, handed })
 }

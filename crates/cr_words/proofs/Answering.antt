@@ -9,7 +9,7 @@ use Rattle.cr_words.specs.Readings.{IsFirst, IsRefused, IsAccepted, IsWordsFault
 use Rattle.cr_words.proofs.Faults.{first_holds}
 use Rattle.cr_words.proofs.Wishes.{one_wish, not_both, one_first, wish_or_fault}
 use Rattle.cr_words.specs.declared.fault.WordsFault.{WordsFault}
-use Rattle.cr_words.specs.declared.fault.WordsFault.TheVariants.{Line, Workers, Turns, Number, Mode as NoMode, Mixed, NoMemory, Every}
+use Rattle.cr_words.specs.declared.fault.WordsFault.TheVariants.{Line, Workers, Turns, Number, Mode as NoMode, Mixed, NoMemory, Every, Into}
 use Rattle.cr_words.specs.declared.wish.Wish.{Wish}
 
 -- a fault of no value is none of theirs
@@ -28,6 +28,7 @@ first_is_fault words Number taken first = (taken, first)
 first_is_fault words NoMode taken first = (taken, first)
 first_is_fault words Mixed taken first = (taken, first)
 first_is_fault words Every taken first = (taken, first)
+first_is_fault words Into taken first = (taken, first)
 first_is_fault words NoMemory taken first = absurd (of_value (assigned words) NoMemory (line_or_memory (assigned words)).1 first)
 
 -- the answer of the values, of words that are taken
@@ -55,6 +56,7 @@ refused_may_fail words Number is = absurd is
 refused_may_fail words NoMode is = absurd is
 refused_may_fail words Mixed is = absurd is
 refused_may_fail words Every is = absurd is
+refused_may_fail words Into is = absurd is
 refused_may_fail words NoMemory is = inl refl
 
 -- words are accepted or have one fault
@@ -67,6 +69,7 @@ fault_parts words Number is = inr is
 fault_parts words NoMode is = inr is
 fault_parts words Mixed is = inr is
 fault_parts words Every is = inr is
+fault_parts words Into is = inr is
 fault_parts words NoMemory is = absurd is
 
 pub not_accepted : (words : List Text) (w : Wish) (f : WordsFault) → IsAccepted words w → IsWordsFaultOf words f → ⊥

@@ -2,14 +2,17 @@
 use Rattle.std.proofs.Common.{◌≡◌, ◌∙◌, refl, ap, sym, arith, cond, ℕ, Bool, true, false, not, ◌||◌, Option, Some, None, is_some, List, [], ◌∷◌, length, get_or}
 use Rattle.std.specs.Prelude.{filter}
 use Rattle.std.specs.Option.{option_map_or}
-use Rattle.cr_words.specs.Values.{Assigned, Task, workers_of, turns_of, number_for, task_of, every_of, exceeds, has_both, is_mixed, has_fault, order, faults_of}
+use Rattle.cr_words.specs.Values.{Assigned, Task, workers_of, turns_of, number_for, task_of, every_of, into_of, exceeds, has_both, is_mixed, has_fault, order, faults_of}
 use Rattle.cr_words.specs.Readings.{IsFirst}
 use Rattle.cr_words.specs.declared.fault.WordsFault.{WordsFault}
-use Rattle.cr_words.specs.declared.fault.WordsFault.TheVariants.{Workers, Turns, Number, Mode as NoMode, Every, Mixed}
+use Rattle.cr_words.specs.declared.fault.WordsFault.TheVariants.{Workers, Turns, Number, Mode as NoMode, Every, Into, Mixed}
 
 -- the faults that are looked for after each
+abbrev after_every : List WordsFault
+after_every = Into ∷ Mixed ∷ []
+
 abbrev after_mode : List WordsFault
-after_mode = Every ∷ Mixed ∷ []
+after_mode = Every ∷ after_every
 
 abbrev after_number : List WordsFault
 after_number = NoMode ∷ after_mode
@@ -48,19 +51,27 @@ past_mode a n t k task is also too named =
     past_number a n t k is also too ∙ passes a NoMode after_mode (ap (λ o. not (is_some o)) named)
 
 past_every : (a : Assigned) (n : ℕ) (t : Option ℕ) (k : ℕ) (task : Task) (h : Option ℕ) → workers_of a ≡ Some n → turns_of a ≡ Some t
-    → number_for a ≡ Some k → task_of a ≡ Some task → every_of a ≡ Some h → faults_of a ≡ filter (has_fault a) (Mixed ∷ [])
+    → number_for a ≡ Some k → task_of a ≡ Some task → every_of a ≡ Some h → faults_of a ≡ filter (has_fault a) after_every
 unfolding has_fault
 past_every a n t k task h is also too named each =
-    past_mode a n t k task is also too named ∙ passes a Every (Mixed ∷ []) (ap (λ o. not (is_some o)) each)
+    past_mode a n t k task is also too named ∙ passes a Every after_every (ap (λ o. not (is_some o)) each)
+
+past_into : (a : Assigned) (n : ℕ) (t : Option ℕ) (k : ℕ) (task : Task) (h : Option ℕ) (m : ℕ) → workers_of a ≡ Some n
+    → turns_of a ≡ Some t → number_for a ≡ Some k → task_of a ≡ Some task → every_of a ≡ Some h → into_of a ≡ Some m
+    → faults_of a ≡ filter (has_fault a) (Mixed ∷ [])
+unfolding has_fault
+past_into a n t k task h m is also too named each many =
+    past_every a n t k task h is also too named each ∙ passes a Into (Mixed ∷ []) (ap (λ o. not (is_some o)) many)
 
 mixed_by : (a : Assigned) (task : Task) → task_of a ≡ Some task → has_fault a Mixed ≡ is_mixed a task
 unfolding has_fault
 mixed_by a task named = ap (λ o. option_map_or (exceeds a) o false || has_both a) named
 
-pub no_fault : (a : Assigned) (n : ℕ) (t : Option ℕ) (k : ℕ) (task : Task) (h : Option ℕ) → workers_of a ≡ Some n → turns_of a ≡ Some t
-    → number_for a ≡ Some k → task_of a ≡ Some task → every_of a ≡ Some h → is_mixed a task ≡ false → faults_of a ≡ []
-no_fault a n t k task h is also too named each unmixed =
-    past_every a n t k task h is also too named each ∙ passes a Mixed [] (mixed_by a task named ∙ unmixed)
+pub no_fault : (a : Assigned) (n : ℕ) (t : Option ℕ) (k : ℕ) (task : Task) (h : Option ℕ) (m : ℕ) → workers_of a ≡ Some n
+    → turns_of a ≡ Some t → number_for a ≡ Some k → task_of a ≡ Some task → every_of a ≡ Some h → into_of a ≡ Some m
+    → is_mixed a task ≡ false → faults_of a ≡ []
+no_fault a n t k task h m is also too named each many unmixed =
+    past_into a n t k task h m is also too named each many ∙ passes a Mixed [] (mixed_by a task named ∙ unmixed)
 
 pub first_workers : (a : Assigned) → workers_of a ≡ None → IsFirst (faults_of a) Workers
 unfolding faults_of has_fault
@@ -87,12 +98,19 @@ pub first_every : (a : Assigned) (n : ℕ) (t : Option ℕ) (k : ℕ) (task : Ta
     → number_for a ≡ Some k → task_of a ≡ Some task → every_of a ≡ None → IsFirst (faults_of a) Every
 unfolding has_fault
 first_every a n t k task is also too named none =
-    (filter (has_fault a) (Mixed ∷ []), past_mode a n t k task is also too named ∙ stops a Every (Mixed ∷ []) (ap (λ o. not (is_some o)) none))
+    (filter (has_fault a) after_every, past_mode a n t k task is also too named ∙ stops a Every after_every (ap (λ o. not (is_some o)) none))
 
-pub first_mixed : (a : Assigned) (n : ℕ) (t : Option ℕ) (k : ℕ) (task : Task) (h : Option ℕ) → workers_of a ≡ Some n → turns_of a ≡ Some t
-    → number_for a ≡ Some k → task_of a ≡ Some task → every_of a ≡ Some h → is_mixed a task ≡ true → IsFirst (faults_of a) Mixed
-first_mixed a n t k task h is also too named each mixed =
-    ([], past_every a n t k task h is also too named each ∙ stops a Mixed [] (mixed_by a task named ∙ mixed))
+pub first_into : (a : Assigned) (n : ℕ) (t : Option ℕ) (k : ℕ) (task : Task) (h : Option ℕ) → workers_of a ≡ Some n → turns_of a ≡ Some t
+    → number_for a ≡ Some k → task_of a ≡ Some task → every_of a ≡ Some h → into_of a ≡ None → IsFirst (faults_of a) Into
+unfolding has_fault
+first_into a n t k task h is also too named each none =
+    (filter (has_fault a) (Mixed ∷ []), past_every a n t k task h is also too named each ∙ stops a Into (Mixed ∷ []) (ap (λ o. not (is_some o)) none))
+
+pub first_mixed : (a : Assigned) (n : ℕ) (t : Option ℕ) (k : ℕ) (task : Task) (h : Option ℕ) (m : ℕ) → workers_of a ≡ Some n
+    → turns_of a ≡ Some t → number_for a ≡ Some k → task_of a ≡ Some task → every_of a ≡ Some h → into_of a ≡ Some m
+    → is_mixed a task ≡ true → IsFirst (faults_of a) Mixed
+first_mixed a n t k task h m is also too named each many mixed =
+    ([], past_into a n t k task h m is also too named each many ∙ stops a Mixed [] (mixed_by a task named ∙ mixed))
 
 -- the first that is listed holds
 held_by : (p : WordsFault → Bool) (x f : WordsFault) (xs rest : List WordsFault) (b : Bool) → p x ≡ b

@@ -10,7 +10,7 @@ use Rattle.cr_words.specs.declared.table.Kind.{Kind}
 use Rattle.cr_words.specs.declared.table.Kind.TheVariants as kind
 use Rattle.cr_words.specs.declared.wish.Wish.{Wish}
 use Rattle.cr_words.specs.declared.wish.Mode.{Mode}
-use Rattle.cr_words.specs.declared.wish.Mode.TheVariants.{Search, Make, Trail, Last}
+use Rattle.cr_words.specs.declared.wish.Mode.TheVariants.{Search, Make, Trail, Last, Cut, Join}
 
 -- an option beside `--do`, and its value where it is not given
 pub record Choice : Type 0 where
@@ -23,6 +23,7 @@ choices =
     ∷ record { name = codes "turns"; default = None }
     ∷ record { name = codes "number"; default = Some (codes "0") }
     ∷ record { name = codes "every"; default = None }
+    ∷ record { name = codes "into"; default = Some (codes "1") }
     ∷ []
 
 -- what `--do` may name: the name, what that is, and the options that it uses
@@ -36,6 +37,8 @@ tasks =
     record { name = codes "search"; kind = kind.Search; uses = codes "workers" ∷ codes "turns" ∷ codes "every" ∷ [] }
     ∷ record { name = codes "make"; kind = kind.Make; uses = codes "workers" ∷ codes "number" ∷ [] }
     ∷ record { name = codes "last"; kind = kind.Last; uses = [] }
+    ∷ record { name = codes "cut"; kind = kind.Cut; uses = codes "into" ∷ [] }
+    ∷ record { name = codes "join"; kind = kind.Join; uses = [] }
     ∷ []
 
 -- what is assigned to each option, by its name: its value, which is its default where it was not given, and whether it
@@ -65,6 +68,10 @@ every_of a = turns_among 1 (a.value (codes "every"))
 abbrev pub number_for : Assigned → Option ℕ
 number_for a = option_and_then (number_from 0 4294967295) (a.value (codes "number"))
 
+-- `--into`: 1 to 1,024
+abbrev pub into_of : Assigned → Option ℕ
+into_of a = option_and_then (number_from 1 1024) (a.value (codes "into"))
+
 -- the first of some tasks that has the name
 abbrev pub named : List Task → List ℕ → Option Task
 named among word = find (λ task. bytes_eq word task.name) among
@@ -83,6 +90,8 @@ abbrev pub mode_for : Assigned → Kind → Option Mode
 mode_for a kind.Search = option_map search_with (every_of a)
 mode_for a kind.Make = option_map Make (number_for a)
 mode_for a kind.Last = Some Last
+mode_for a kind.Cut = option_map Cut (into_of a)
+mode_for a kind.Join = Some Join
 
 abbrev pub mode_of : Assigned → Option Mode
 mode_of a = option_and_then (λ task. mode_for a task.kind) (task_of a)
@@ -113,12 +122,13 @@ has_fault a fault.Turns = not (is_some (turns_of a))
 has_fault a fault.Number = not (is_some (number_for a))
 has_fault a fault.Mode = not (is_some (task_of a))
 has_fault a fault.Every = not (is_some (every_of a))
+has_fault a fault.Into = not (is_some (into_of a))
 has_fault a fault.Mixed = option_map_or (exceeds a) (task_of a) false || has_both a
 has_fault a _ = false
 
 -- the faults of values, in the order in which they are looked for
 abbrev pub order : List WordsFault
-order = fault.Workers ∷ fault.Turns ∷ fault.Number ∷ fault.Mode ∷ fault.Every ∷ fault.Mixed ∷ []
+order = fault.Workers ∷ fault.Turns ∷ fault.Number ∷ fault.Mode ∷ fault.Every ∷ fault.Into ∷ fault.Mixed ∷ []
 
 -- all that is wrong with the values, in that order
 unfoldable pub faults_of : Assigned → List WordsFault

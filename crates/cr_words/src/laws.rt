@@ -33,12 +33,14 @@ pub fn lines_are_taken_or_not()
     ensures taken { list_all is_line_taken (codes "--workers 3" ∷ codes "--workers=3" ∷ codes "--turns=5"
         ∷ codes "--turns 5" ∷ codes "--workers=" ∷ codes "--workers " ∷ codes "--do find" ∷ codes "--turns=-1"
         ∷ (codes "--number " ++ accent) ∷ codes "--" ∷ codes "--do make --number 7 --workers 64"
-        ∷ codes "--every 3" ∷ codes "--every=" ∷ codes "--do last --every 3 --turns 5" ∷ []) ≡ true }
+        ∷ codes "--every 3" ∷ codes "--every=" ∷ codes "--do last --every 3 --turns 5" ∷ codes "--into 3"
+        ∷ codes "--into=" ∷ codes "--do cut --into=2" ∷ codes "--do join --into 2" ∷ []) ≡ true }
     ensures not_taken { list_all (λ text. not (is_line_taken text)) (codes "--bells" ∷ codes "--workers"
         ∷ codes "--workers --turns" ∷ codes "--turns 1 --turns 2" ∷ codes "--do=make --do=make" ∷ codes "--turns -1"
         ∷ codes "--work 3" ∷ codes "find" ∷ codes "" ∷ accent ∷ codes "-- 5" ∷ codes "-t 5" ∷ codes "--help"
         ∷ codes "-h" ∷ codes "--version" ∷ codes "help" ∷ codes "--workers 3 " ∷ codes "--every"
-        ∷ codes "--every 1 --every 1" ∷ codes "--every -1" ∷ codes "last" ∷ []) ≡ true }
+        ∷ codes "--every 1 --every 1" ∷ codes "--every -1" ∷ codes "last" ∷ codes "--into"
+        ∷ codes "--into 2 --into 2" ∷ codes "--into -1" ∷ codes "join" ∷ []) ≡ true }
 {}
 
 /// Lines and their wishes, at the edges of the numbers. Leading zeros are taken.
@@ -64,6 +66,14 @@ pub fn lines_read_as_wishes()
         (record { workers = 1; turns = None; mode = mode.Trail 9223372036854775807 }) }
     ensures last { ReadsAs (line (codes "--do last"))
         (record { workers = 1; turns = None; mode = mode.Last }) }
+    ensures cut { ReadsAs (line (codes "--do cut"))
+        (record { workers = 1; turns = None; mode = mode.Cut 1 }) }
+    ensures cut_into { ReadsAs (line (codes "--into 007 --do cut"))
+        (record { workers = 1; turns = None; mode = mode.Cut 7 }) }
+    ensures most_into { ReadsAs (line (codes "--do=cut --into=1024"))
+        (record { workers = 1; turns = None; mode = mode.Cut 1024 }) }
+    ensures join { ReadsAs (line (codes "--do join"))
+        (record { workers = 1; turns = None; mode = mode.Join }) }
     ensures lone { ReadsAs (line (codes "--")) (record { workers = 1; turns = None; mode = mode.Search }) }
 {}
 
@@ -82,6 +92,9 @@ pub fn lines_have_faults()
     ensures every { map line_faults (codes "--every 0" ∷ codes "--every 9223372036854775808" ∷ codes "--every="
         ∷ codes "--every +5" ∷ [])
         ≡ (fault.Every ∷ []) ∷ (fault.Every ∷ []) ∷ (fault.Every ∷ []) ∷ (fault.Every ∷ []) ∷ [] }
+    ensures into { map line_faults (codes "--do cut --into 0" ∷ codes "--do cut --into 1025" ∷ codes "--do cut --into="
+        ∷ codes "--do cut --into +5" ∷ [])
+        ≡ (fault.Into ∷ []) ∷ (fault.Into ∷ []) ∷ (fault.Into ∷ []) ∷ (fault.Into ∷ []) ∷ [] }
     ensures mixed { map line_faults (codes "--do make --turns 5" ∷ codes "--number 1" ∷ codes "--number 0"
         ∷ codes "--every 5 --turns 5" ∷ codes "--do last --every 3" ∷ codes "--do make --every 3" ∷ [])
         ≡ (fault.Mixed ∷ []) ∷ (fault.Mixed ∷ []) ∷ (fault.Mixed ∷ []) ∷ (fault.Mixed ∷ []) ∷ (fault.Mixed ∷ [])
@@ -95,6 +108,20 @@ pub fn lines_have_faults()
     ensures last { map line_faults (codes "--do last --workers 1" ∷ codes "--do last --turns 1"
         ∷ codes "--do last --every 1" ∷ codes "--do last --number 1" ∷ codes "--do last" ∷ [])
         ≡ (fault.Mixed ∷ []) ∷ (fault.Mixed ∷ []) ∷ (fault.Mixed ∷ []) ∷ (fault.Mixed ∷ []) ∷ [] ∷ [] }
+    ensures cut { map line_faults (codes "--do cut --workers 1" ∷ codes "--do cut --turns 1"
+        ∷ codes "--do cut --every 1" ∷ codes "--do cut --number 1" ∷ codes "--do cut --into 1" ∷ codes "--do cut" ∷ [])
+        ≡ (fault.Mixed ∷ []) ∷ (fault.Mixed ∷ []) ∷ (fault.Mixed ∷ []) ∷ (fault.Mixed ∷ []) ∷ [] ∷ [] ∷ [] }
+    ensures join { map line_faults (codes "--do join --workers 1" ∷ codes "--do join --turns 1"
+        ∷ codes "--do join --every 1" ∷ codes "--do join --number 1" ∷ codes "--do join --into 1" ∷ codes "--do join" ∷ [])
+        ≡ (fault.Mixed ∷ []) ∷ (fault.Mixed ∷ []) ∷ (fault.Mixed ∷ []) ∷ (fault.Mixed ∷ []) ∷ (fault.Mixed ∷ []) ∷ [] ∷ [] }
+    ensures not_cut { map line_faults (codes "--into 1" ∷ codes "--do search --into 2" ∷ codes "--do make --into 2"
+        ∷ codes "--do last --into 2" ∷ [])
+        ≡ (fault.Mixed ∷ []) ∷ (fault.Mixed ∷ []) ∷ (fault.Mixed ∷ []) ∷ (fault.Mixed ∷ []) ∷ [] }
+    ensures with_into { map line_faults (codes "--into 0" ∷ codes "--do find --into 0" ∷ codes "--every 0 --do cut --into 0"
+        ∷ codes "--do cut --workers 0 --into 0" ∷ codes "--do join --into 1025" ∷ codes "--do last --turns x --into x" ∷ [])
+        ≡ (fault.Into ∷ fault.Mixed ∷ []) ∷ (fault.Mode ∷ fault.Into ∷ [])
+        ∷ (fault.Every ∷ fault.Into ∷ fault.Mixed ∷ []) ∷ (fault.Workers ∷ fault.Into ∷ fault.Mixed ∷ [])
+        ∷ (fault.Into ∷ fault.Mixed ∷ []) ∷ (fault.Turns ∷ fault.Into ∷ fault.Mixed ∷ []) ∷ [] }
     ensures many { map line_faults (codes "--do make --number 4294967296" ∷ codes "--number x"
         ∷ codes "--do make --turns x" ∷ codes "--do z --number y --turns x --workers w" ∷ codes "--every 0 --turns 5"
         ∷ codes "--do last --every 0" ∷ codes "--do find --every 0" ∷ codes "--do z --every 5 --turns 5" ∷ [])

@@ -19,10 +19,10 @@ fn wish_in(alloc: Global, words: &[String]) -> Result<Wish, WordsFault>
     Values::of(&matches).wish()
 }
 
-/// The wish that the words after the program's name read as, by clap's parse of the five options. Words that clap's
+/// The wish that the words after the program's name read as, by clap's parse of the six options. Words that clap's
 /// definition does not take give `Line`, and words that it takes the first fault of what they assign: a value outside
-/// its range (`Workers`, `Turns`, `Number`, `Mode`, `Every`), or an option that has no use in what is to be done, or both
-/// `--turns` and `--every` (`Mixed`). `NoMemory` comes where there was not enough memory.
+/// its range (`Workers`, `Turns`, `Number`, `Mode`, `Every`, `Into`), or an option that has no use in what is to be done,
+/// or both `--turns` and `--every` (`Mixed`). `NoMemory` comes where there was not enough memory.
 pub fn read_words(alloc: Global, words: &[String]) -> Result<Wish, WordsFault>
     ensures ok { IfOk result (IsAccepted (texts_of words.now)) }
     ensures fails { IfErr result (MayFail (texts_of words.now)) }

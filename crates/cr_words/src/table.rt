@@ -1,7 +1,7 @@
 //! The tables of the command line: its options, and the modes that `--do` names.
 
 ghost use Rattle.std.specs.Prelude.{◌≡◌, map, Some};
-ghost use Rattle.cr_words.specs.Values.{Assigned, every_of, is_among, mode_for, number_for, search_with};
+ghost use Rattle.cr_words.specs.Values.{Assigned, every_of, into_of, is_among, mode_for, number_for, search_with};
 
 use crate::Mode;
 
@@ -30,6 +30,10 @@ pub const CHOICES: &[Choice] = &[
         name: "every",
         default: None,
     },
+    Choice {
+        name: "into",
+        default: Some("1"),
+    },
 ];
 
 /// What `--do` names, without the numbers that its mode may carry.
@@ -38,6 +42,8 @@ pub enum Kind {
     Search,
     Make,
     Last,
+    Cut,
+    Join,
 }
 
 // The mode of a search, with a trail where it is said after how many turns each checkpoint comes.
@@ -52,13 +58,16 @@ fn search_with(every: Option<u64>) -> Mode
 
 impl Kind {
     /// The mode of this kind.
-    pub fn mode(self, number: u32, every: Option<u64>) -> Mode
-        ensures { (a : Assigned) → number_for a ≡ Some number → every_of a ≡ Some every → mode_for a self ≡ Some result }
+    pub fn mode(self, number: u32, every: Option<u64>, into: u32) -> Mode
+        ensures { (a : Assigned) → number_for a ≡ Some number → every_of a ≡ Some every → into_of a ≡ Some into
+            → mode_for a self ≡ Some result }
     {
         match self {
             Kind::Search => search_with(every),
             Kind::Make => Mode::Make(number),
             Kind::Last => Mode::Last,
+            Kind::Cut => Mode::Cut(into),
+            Kind::Join => Mode::Join,
         }
     }
 }
@@ -86,6 +95,16 @@ pub const TASKS: &[Task] = &[
     Task {
         name: "last",
         kind: Kind::Last,
+        uses: &[],
+    },
+    Task {
+        name: "cut",
+        kind: Kind::Cut,
+        uses: &["into"],
+    },
+    Task {
+        name: "join",
+        kind: Kind::Join,
         uses: &[],
     },
 ];

@@ -51,6 +51,11 @@ const TAKEN: &[Taken] = &[
         Mode::Trail(9_223_372_036_854_775_807),
     ),
     Taken("--do last", 1, None, Mode::Last),
+    Taken("--do cut", 1, None, Mode::Cut(1)),
+    Taken("--do cut --into 1", 1, None, Mode::Cut(1)),
+    Taken("--into=0002 --do=cut", 1, None, Mode::Cut(2)),
+    Taken("--do cut --into 1024", 1, None, Mode::Cut(1024)),
+    Taken("--do join", 1, None, Mode::Join),
 ];
 
 // A line and its fault.
@@ -105,6 +110,30 @@ const REFUSED: &[Refused] = &[
     Refused("--do last --workers 1", WordsFault::Mixed),
     Refused("--do make --every 3", WordsFault::Mixed),
     Refused("--every 3 --number 1", WordsFault::Mixed),
+    Refused("--into", WordsFault::Line),
+    Refused("--do cut --into 1 --into 1", WordsFault::Line),
+    Refused("--do cut --into 0", WordsFault::Into),
+    Refused("--do cut --into 1025", WordsFault::Into),
+    Refused("--do cut --into 4294967297", WordsFault::Into),
+    Refused("--do cut --into=", WordsFault::Into),
+    Refused("--into 0", WordsFault::Into),
+    Refused("--do join --into 0", WordsFault::Into),
+    Refused("--do cut --into 0 --workers 2", WordsFault::Into),
+    Refused("--do find --into 0", WordsFault::Mode),
+    Refused("--every 0 --into 0", WordsFault::Every),
+    Refused("--do search --into 2", WordsFault::Mixed),
+    Refused("--into 1", WordsFault::Mixed),
+    Refused("--do make --into 2", WordsFault::Mixed),
+    Refused("--do last --into 2", WordsFault::Mixed),
+    Refused("--do join --into 1", WordsFault::Mixed),
+    Refused("--do cut --workers 1", WordsFault::Mixed),
+    Refused("--do cut --turns 1", WordsFault::Mixed),
+    Refused("--do cut --every 1", WordsFault::Mixed),
+    Refused("--do cut --number 0", WordsFault::Mixed),
+    Refused("--do join --workers 1", WordsFault::Mixed),
+    Refused("--do join --turns 1", WordsFault::Mixed),
+    Refused("--do join --every 1", WordsFault::Mixed),
+    Refused("--do join --number 0", WordsFault::Mixed),
 ];
 
 #[test]

@@ -3,7 +3,7 @@
 ghost use Rattle.std.specs.Prelude.{◌≡◌, MatchResult, map, option_map};
 ghost use Rattle.std.specs.List.{list_any};
 ghost use Rattle.cr_words.specs.Commands.{values_of};
-ghost use Rattle.cr_words.specs.Values.{IsWishOf, faults_of, workers_of, turns_of, number_for, every_of};
+ghost use Rattle.cr_words.specs.Values.{IsWishOf, faults_of, workers_of, turns_of, number_for, every_of, into_of};
 ghost use Rattle.cr_words.specs.Values.{task_of, named, is_beyond, exceeds, has_both, is_mixed};
 ghost use Rattle.cr_words.specs.Tables.{choice_of, task_in};
 ghost use Rattle.cr_words.specs.Readings.{IsFirst};
@@ -92,6 +92,13 @@ impl<'m, 'a> Values<'m, 'a> {
         }
     }
 
+    // The number of checkpoints that an input is cut into.
+    fn into_many(&self) -> Option<u32>
+        ensures { result ≡ into_of (values_of self.now.matches.now) }
+    {
+        small_between(self.value("into")?, 1, 1024)
+    }
+
     // What is to be done.
     fn task(&self) -> Option<&'static Task>
         ensures { option_map (λ task. task_in task.now) result ≡ task_of (values_of self.now.matches.now) }
@@ -159,13 +166,16 @@ impl<'m, 'a> Values<'m, 'a> {
         let Some(every) = self.every() else {
             return Err(WordsFault::Every);
         };
+        let Some(into) = self.into_many() else {
+            return Err(WordsFault::Into);
+        };
         if self.is_mixed(task) {
             return Err(WordsFault::Mixed);
         }
         Ok(Wish {
             workers,
             turns,
-            mode: task.kind.mode(number, every),
+            mode: task.kind.mode(number, every, into),
         })
     }
 }

@@ -12,6 +12,10 @@ pub enum Mode {
     Trail(u64),
     /// Read what such a search wrote, and write its last whole checkpoint.
     Last,
+    /// Read an input from the source, and write it as so many checkpoints, 1 to 1,024, that can be searched apart.
+    Cut(u32),
+    /// Read such checkpoints, and write them as one.
+    Join,
 }
 
 /// What the words wish for.

@@ -3,10 +3,12 @@
 ghost use Rattle.std.specs.Prelude.{◌≡◌};
 ghost use Rattle.cr_board.specs.Examples.{hunts};
 
-use super::hunter::*;
+use super::boards::{board_of_one, not_begun};
 use super::node_lists::same_nodes;
 use cr_board::{Board, Claimed, Entry, Event, Handed, Opening, Taken};
+use cr_hunter::{Hunter, board_of_both, both_nodes, make_hunter, plain_hunts};
 use cr_node::{Done, Explorer, Node};
+use cr_samples::{DOUBLES, problem_of};
 use std::alloc::Global;
 use std::mem;
 use std::test::*;
@@ -92,7 +94,7 @@ fn make(board: &mut Board, alloc: Global, hunter: &Hunter, call: Call) -> Result
             Ok(seen_handed(&board.hand_in(worker, number, done)))
         }
         BothHunted(worker, number) => {
-            let done = both_hunted(alloc)?;
+            let done = hunter.both_turns(alloc)?;
             Ok(seen_handed(&board.hand_in(worker, number, done)))
         }
         NotBegun(worker, number) => {
@@ -229,7 +231,7 @@ fn both_found(board: &Board) -> bool {
 
 #[test]
 fn a_script_step_by_step(rt: HostRuntime) -> Result<(), Fail> {
-    let mut board = board_of_two(rt.alloc(), None)?;
+    let mut board = board_of_both(rt.alloc(), None, 3)?;
     follow(&mut board, rt.alloc(), SCRIPT)?;
     assert!(rt; both_found(&board));
     Ok(())
@@ -262,7 +264,7 @@ fn play(board: &mut Board, alloc: Global) -> Result<(), Fail>
 
 #[test]
 fn the_script_as_events(rt: HostRuntime) -> Result<(), Fail> {
-    let mut board = board_of_two(rt.alloc(), None)?;
+    let mut board = board_of_both(rt.alloc(), None, 3)?;
     play(&mut board, rt.alloc())?;
     assert!(rt; both_found(&board));
     Ok(())
@@ -291,7 +293,12 @@ fn node(steps: Vec<u8>) -> Result<Node, Fail> {
 
 // A board with one job of nodes of Plain Bob Doubles, without a budget.
 fn board_of(alloc: Global, text: &[u8], budget: Option<u64>) -> Result<Board, Fail> {
-    board_of_one(alloc, &doubles(alloc)?, &nodes(alloc, text)?, budget)
+    board_of_one(
+        alloc,
+        &problem_of(alloc, &DOUBLES)?,
+        &nodes(alloc, text)?,
+        budget,
+    )
 }
 
 // Calls on a board with one job of these nodes, with this budget.
@@ -487,7 +494,7 @@ fn halves_of_a_rest(rt: HostRuntime) -> Result<(), Fail> {
 
 // The root of Plain Bob Doubles, for two workers.
 fn opening_of(alloc: Global, budget: u64) -> Result<Opening, Fail> {
-    Ok(Opening::fresh(alloc, doubles(alloc)?, Some(budget), 2)?)
+    Ok(Opening::fresh(alloc, problem_of(alloc, &DOUBLES)?, Some(budget), 2)?)
 }
 
 fn copied(alloc: Global) -> Result<Opening, Fail> {

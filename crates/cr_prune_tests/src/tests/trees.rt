@@ -154,7 +154,7 @@ const TREES: &[(&str, Draft, u64)] = &[
     ("Doubles", DOUBLES, 16_382),
     ("Doubles in two parts", IN_TWO_PARTS, 254),
     ("Doubles with four bobs", FOUR_BOBS, 254),
-    ("Minimus", MINIMUS, 30),
+    ("Minimus", MINIMUS_WITH_SINGLES, 30),
     ("two methods", SPLICED, 30),
     ("two methods, changing", CHANGING, 30),
 ];

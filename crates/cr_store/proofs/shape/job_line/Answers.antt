@@ -1,7 +1,7 @@
 -- Another number, or 0.
 use Rattle.std.proofs.Common.{codes, arith}
 use Rattle.cr_model.specs.Checkpoints.{number_line}
-use Rattle.cr_store.specs.Shapes.{IsNumber}
+use Rattle.cr_model.specs.Texts.{IsNumber}
 use Rattle.cr_store.specs.ShapeStages.{IsCount}
 use Rattle.cr_store.proofs.ShapeCodes.{another_begins}
 use Rattle.cr_store.proofs.ShapeStops.{job_code}

@@ -2,9 +2,9 @@
 use Rattle.std.proofs.Common.{codes}
 use Rattle.std.proofs.lemmas.Bool.{iff_false}
 use Rattle.cr_model.specs.Checkpoints.{number_line}
-use Rattle.cr_store.specs.Shapes.{IsNumber}
+use Rattle.cr_model.specs.Texts.{IsNumber}
+use Rattle.cr_model.proofs.Lacking.{if_none}
 use Rattle.cr_store.specs.ShapeStages.{IsVersion}
-use Rattle.cr_store.proofs.ShapeBodies.{if_none}
 use Rattle.cr_store.proofs.ShapeCodes.{another_begins, none_of_fewer}
 use Rattle.cr_store.proofs.ShapeStops.{version_code, version_number}
 use Rattle.cr_store.proofs.shape.version_line.Goals as goal

@@ -2,7 +2,8 @@
 use Rattle.std.proofs.Common.{ℕ, List, [], ◌∷◌, codes, inl, inr, refl, arith}
 use Rattle.std.specs.Fmt.{digits}
 use Rattle.std.proofs.lemmas.List.Elements.{All-nil, All-cons}
-use Rattle.cr_store.specs.Shapes.{IsNumber, AreLetters, IsFoundLine, IsNodeLine, IsJobLines}
+use Rattle.cr_model.specs.Texts.{IsNumber}
+use Rattle.cr_store.specs.Shapes.{AreLetters, IsFoundLine, IsNodeLine, IsJobLines}
 use Rattle.cr_store.proofs.shape_laws.shapes_by_example.Goals as goal
 
 shares : (shared : ℕ) (steps : List ℕ) → IsNumber shared → AreLetters steps → IsNodeLine 2 (record { shared = shared; steps = steps })

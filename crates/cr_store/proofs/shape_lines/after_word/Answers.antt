@@ -1,4 +1,4 @@
-use Rattle.cr_store.proofs.ShapeBodies.{stripped_some, stripped_none}
+use Rattle.cr_model.proofs.Lacking.{stripped_some, stripped_none}
 use Rattle.cr_store.proofs.shape_lines.after_word.Goals as goal
 
 pub returns-clause-some : goal.returns-clause-some

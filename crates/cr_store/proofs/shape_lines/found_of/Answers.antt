@@ -1,5 +1,6 @@
 use Rattle.std.proofs.lemmas.Bool.{iff_false}
-use Rattle.cr_store.proofs.ShapeBodies.{if_none, no_length, no_calling}
+use Rattle.cr_model.proofs.Lacking.{if_none}
+use Rattle.cr_store.proofs.ShapeBodies.{no_length, no_calling}
 use Rattle.cr_store.proofs.shape_lines.found_of.Goals as goal
 
 pub returns-in_err-length-clause-none : goal.returns-in_err-length-clause-none

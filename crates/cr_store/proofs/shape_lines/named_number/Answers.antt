@@ -1,4 +1,4 @@
-use Rattle.cr_store.proofs.ShapeBodies.{no_number_after}
+use Rattle.cr_model.proofs.Lacking.{no_number_after}
 use Rattle.cr_store.proofs.shape_lines.named_number.Goals as goal
 
 pub returns-clause-none : goal.returns-clause-none

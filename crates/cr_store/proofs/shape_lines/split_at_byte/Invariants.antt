@@ -1,5 +1,5 @@
 use Rattle.std.proofs.Common.{take}
-use Rattle.cr_store.specs.ShapeSteps.{Lacks}
+use Rattle.cr_model.specs.Texts.{Lacks}
 use Rattle.cr_store.proofs.shape_lines.split_at_byte.Given as goal
 
 abbrev pub invariant-loop-place : goal.invariant-loop-place

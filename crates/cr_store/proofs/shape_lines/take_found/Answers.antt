@@ -1,6 +1,7 @@
+use Rattle.cr_model.proofs.Lacking.{if_none}
 use Rattle.cr_store.specs.Shapes.{IsFoundLine}
 use Rattle.cr_store.specs.ShapeSteps.{found_body}
-use Rattle.cr_store.proofs.ShapeBodies.{if_none, no_line, found_lacks}
+use Rattle.cr_store.proofs.ShapeBodies.{no_line, found_lacks}
 use Rattle.cr_store.proofs.shape_lines.take_found.Goals as goal
 
 pub returns-in_err-found-clause-none : goal.returns-in_err-found-clause-none

@@ -1,4 +1,5 @@
-use Rattle.cr_store.proofs.ShapeBodies.{if_none, no_node}
+use Rattle.cr_model.proofs.Lacking.{if_none}
+use Rattle.cr_store.proofs.ShapeBodies.{no_node}
 use Rattle.cr_store.proofs.shape_lines.take_node.Goals as goal
 
 pub returns-in_err-node-clause-none : goal.returns-in_err-node-clause-none

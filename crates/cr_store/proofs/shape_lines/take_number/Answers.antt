@@ -1,6 +1,6 @@
-use Rattle.cr_store.specs.Shapes.{IsNumber}
-use Rattle.cr_store.specs.ShapeSteps.{named}
-use Rattle.cr_store.proofs.ShapeBodies.{if_none, no_line, named_lacks}
+use Rattle.cr_model.specs.Texts.{IsNumber, named}
+use Rattle.cr_model.proofs.Lacking.{if_none}
+use Rattle.cr_store.proofs.ShapeBodies.{no_line, named_lacks}
 use Rattle.cr_store.proofs.shape_lines.take_number.Goals as goal
 
 pub returns-in_err-number-clause-none : goal.returns-in_err-number-clause-none

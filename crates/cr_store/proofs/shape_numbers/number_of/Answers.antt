@@ -2,8 +2,8 @@
 use Rattle.std.proofs.Common.{◌≡◌, ap, sym, subst, arith}
 use Rattle.std.specs.Str.Parse.{digits_value}
 use Rattle.std.proofs.lemmas.Bool.{both_ways}
-use Rattle.cr_store.specs.ShapeSteps.{IsNumeral}
-use Rattle.cr_store.proofs.ShapeNumbers.{numeral_of, value_of_digits, value_of_number}
+use Rattle.cr_model.specs.Texts.{IsNumeral}
+use Rattle.cr_model.proofs.Numerals.{numeral_of, value_of_digits, value_of_number}
 use Rattle.cr_store.proofs.shape_numbers.number_of.Goals as goal
 
 pub returns-then-not-is_numeral-clause-none : goal.returns-then-not-is_numeral-clause-none

@@ -2,7 +2,7 @@
 use Rattle.std.proofs.Common.{◌≡◌, take, arith}
 use Rattle.std.specs.Str.Parse.{digits_value}
 use Rattle.std.proofs.lemmas.Int.Digits.{digits_value_more}
-use Rattle.cr_store.proofs.ShapeNumbers.{fits_so_far, digit_is}
+use Rattle.cr_model.proofs.Numerals.{fits_so_far, digit_is}
 use Rattle.cr_store.proofs.shape_numbers.value_of.Goals as goal
 
 pub overflow_mul-value : goal.overflow_mul-value

@@ -3,6 +3,7 @@ use Rattle.cr_words.specs.Commands.{texts_of}
 use Rattle.cr_top.specs.Endings.{Ends}
 use Rattle.cr_top.proofs.Wishing.{without_memory}
 use Rattle.cr_top.proofs.Workers.{some_workers, few_workers, some_turns}
+use Rattle.cr_top.proofs.ShardWishes.{some_shards}
 use Rattle.cr_top.proofs.top.ended.Goals as goal
 
 pub returns-in-Ok-clause-ends : goal.returns-in-Ok-clause-ends
@@ -16,6 +17,9 @@ carried_out-requires-clause-few_workers g c = λ κs lives. few_workers _ c.in-O
 
 pub carried_out-requires-clause-some_turns : goal.carried_out-requires-clause-some_turns
 carried_out-requires-clause-some_turns g c = λ κs lives. some_turns _ c.in-Ok.wish (rw c.in-Ok.is at c.read_words.ensures.ok)
+
+pub carried_out-requires-clause-some_shards : goal.carried_out-requires-clause-some_shards
+carried_out-requires-clause-some_shards g c = λ κs lives. some_shards _ c.in-Ok.wish (rw c.in-Ok.is at c.read_words.ensures.ok)
 
 pub returns-in-Err-NoMemory-clause-ends : goal.returns-in-Err-NoMemory-clause-ends
 returns-in-Err-NoMemory-clause-ends g c = subst (Ends _ _ (texts_of c.args.words.now)) (sym c.status_for.ensures)

@@ -1,9 +1,10 @@
 use Rattle.std.proofs.Common.{Some, refl}
 use Rattle.cr_words.specs.Commands.{texts_of}
-use Rattle.cr_top.proofs.Wishing.{refused, as_search, as_make, as_trail, as_last}
+use Rattle.cr_top.proofs.Wishing.{refused, as_search, as_make, as_trail, as_last, as_cut, as_join}
 use Rattle.cr_top.proofs.Completeness.{made, ends_finished, ends_stopped, ends_refused}
 use Rattle.cr_top.proofs.TrailAnswers.{trail_finished, trail_refused}
 use Rattle.cr_top.proofs.LastAnswers.{last_finished, last_refused}
+use Rattle.cr_top.proofs.ShardAnswers.{cut_finished, cut_refused, join_finished, join_refused}
 use Rattle.cr_top.proofs.top.ringsearch.Goals as goal
 
 pub returns-clause-refuses_words : goal.returns-clause-refuses_words
@@ -69,3 +70,37 @@ returns-clause-refuses_last g c = λ asks input told due is reads.
     (as_last _ _ c.words_read_as_one_wish.ensures c.words_are_accepted_or_have_a_fault.ensures.apart
     (texts_of c.args.words.now) c.ended-status.result asks c.ended-status.ensures.ends)
     (λ taken took. g.met.S.Source.shows _ _ taken took) c.each_text_has_one_last_block.ensures input told reads due is
+
+pub returns-clause-cuts : goal.returns-clause-cuts
+returns-clause-cuts g c = λ into asks input bytes p found nodes told short is reads writes.
+    cut_finished _ _ into c.ended-status.result
+    (as_cut _ _ c.words_read_as_one_wish.ensures c.words_are_accepted_or_have_a_fault.ensures.apart
+    (texts_of c.args.words.now) c.ended-status.result into asks c.ended-status.ensures.ends)
+    (λ taken took. g.met.S.Source.shows _ _ taken took) input
+    (c.inputs_have_one_answer.ensures input) told reads bytes p found nodes short is writes
+
+pub returns-clause-refuses_cut : goal.returns-clause-refuses_cut
+returns-clause-refuses_cut g c = λ into asks input told due is reads.
+    cut_refused _ _ into c.ended-status.result
+    (as_cut _ _ c.words_read_as_one_wish.ensures c.words_are_accepted_or_have_a_fault.ensures.apart
+    (texts_of c.args.words.now) c.ended-status.result into asks c.ended-status.ensures.ends)
+    (λ taken took. g.met.S.Source.shows _ _ taken took) input
+    (c.inputs_have_one_answer.ensures input) told reads due is
+
+pub returns-clause-joins : goal.returns-clause-joins
+returns-clause-joins g c = λ asks input joined told short is reads writes.
+    join_finished _ _ c.ended-status.result
+    (as_join _ _ c.words_read_as_one_wish.ensures c.words_are_accepted_or_have_a_fault.ensures.apart
+    (texts_of c.args.words.now) c.ended-status.result asks c.ended-status.ensures.ends)
+    (λ taken took. g.met.S.Source.shows _ _ taken took)
+    (record { one_fault = c.texts_have_one_answer.ensures.one_fault; never_both = c.texts_have_one_answer.ensures.never_both })
+    input told reads joined short is writes
+
+pub returns-clause-refuses_join : goal.returns-clause-refuses_join
+returns-clause-refuses_join g c = λ asks input told due is reads.
+    join_refused _ _ c.ended-status.result
+    (as_join _ _ c.words_read_as_one_wish.ensures c.words_are_accepted_or_have_a_fault.ensures.apart
+    (texts_of c.args.words.now) c.ended-status.result asks c.ended-status.ensures.ends)
+    (λ taken took. g.met.S.Source.shows _ _ taken took)
+    (record { one_fault = c.texts_have_one_answer.ensures.one_fault; never_both = c.texts_have_one_answer.ensures.never_both })
+    input told reads due is

@@ -19,5 +19,9 @@ returns c = record {
   trail = record { has_workers = refl; has_turns = refl; has_mode = refl; right = refl };
   most_every = record { has_workers = refl; has_turns = refl; has_mode = refl; right = refl };
   last = record { has_workers = refl; has_turns = refl; has_mode = refl; right = refl };
+  cut = record { has_workers = refl; has_turns = refl; has_mode = refl; right = refl };
+  cut_into = record { has_workers = refl; has_turns = refl; has_mode = refl; right = refl };
+  most_into = record { has_workers = refl; has_turns = refl; has_mode = refl; right = refl };
+  join = record { has_workers = refl; has_turns = refl; has_mode = refl; right = refl };
   lone = record { has_workers = refl; has_turns = refl; has_mode = refl; right = refl };
 }

@@ -1,3 +1,0 @@
-mod hunter;
-mod together;
-mod working;

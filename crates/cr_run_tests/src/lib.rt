@@ -1,0 +1,9 @@
+//! The tests of cr_desk and of cr_run, which see what these make public.
+#![tactic(auto)]
+
+#[cfg(test)]
+mod alone_tests;
+#[cfg(test)]
+mod desk_tests;
+#[cfg(test)]
+mod worker_tests;

@@ -1,9 +1,0 @@
-use Rattle.std.proofs.Common.{◌≡◌, ◌++◌, drop}
-use Rattle.std.specs.Prelude.{flat_map}
-use Rattle.cr_model.specs.Books.{book_line}
-use Rattle.cr_store.proofs.texts.write_found.Given as goal
-
-abbrev pub invariant-loop-touch : goal.invariant-loop-touch
-invariant-loop-touch l =
-    l.text.items ++ flat_map (book_line l.problem) (drop l.touch-index l.found)
-    ≡ l.initial.text.items ++ flat_map (book_line l.problem) l.found

@@ -1,0 +1,375 @@
+//! What no clause says: searches that are cut, searched in shards and joined, with ample memory, and what does not belong
+//! together.
+
+use crate::stop_tests::MINIMUS;
+use crate::test_calls::{Ending, check, ends, ends_with};
+use std::test::Fail;
+
+// A checkpoint of Plain Bob Doubles with two jobs, of 200 bytes.
+const WHOLE: &str = "ringsearch checkpoint 2
+problem 124
+stage = 5
+[[method]]
+letter = \"A\"
+notation = \"5.1.5.1.5,125\"
+[[call]]
+mark = \"b\"
+notation = \"145\"
+[query]
+min = 1
+max = 120
+
+found 0
+jobs 2
+job 1
+0 b
+job 1
+0 p
+end
+";
+
+// Its first shard of two.
+const FIRST: &str = "ringsearch checkpoint 2
+problem 124
+stage = 5
+[[method]]
+letter = \"A\"
+notation = \"5.1.5.1.5,125\"
+[[call]]
+mark = \"b\"
+notation = \"145\"
+[query]
+min = 1
+max = 120
+
+found 0
+jobs 1
+job 1
+0 b
+end
+";
+
+// Its second shard of two.
+const SECOND: &str = "ringsearch checkpoint 2
+problem 124
+stage = 5
+[[method]]
+letter = \"A\"
+notation = \"5.1.5.1.5,125\"
+[[call]]
+mark = \"b\"
+notation = \"145\"
+[query]
+min = 1
+max = 120
+
+found 0
+jobs 1
+job 1
+0 p
+end
+";
+
+// Both as blocks, of 400 bytes.
+const TWO: &str = "block 190
+ringsearch checkpoint 2
+problem 124
+stage = 5
+[[method]]
+letter = \"A\"
+notation = \"5.1.5.1.5,125\"
+[[call]]
+mark = \"b\"
+notation = \"145\"
+[query]
+min = 1
+max = 120
+
+found 0
+jobs 1
+job 1
+0 b
+end
+block 190
+ringsearch checkpoint 2
+problem 124
+stage = 5
+[[method]]
+letter = \"A\"
+notation = \"5.1.5.1.5,125\"
+[[call]]
+mark = \"b\"
+notation = \"145\"
+[query]
+min = 1
+max = 120
+
+found 0
+jobs 1
+job 1
+0 p
+end
+";
+
+// Its three shards as blocks.
+const THREE: &str = "block 190
+ringsearch checkpoint 2
+problem 124
+stage = 5
+[[method]]
+letter = \"A\"
+notation = \"5.1.5.1.5,125\"
+[[call]]
+mark = \"b\"
+notation = \"145\"
+[query]
+min = 1
+max = 120
+
+found 0
+jobs 1
+job 1
+0 b
+end
+block 190
+ringsearch checkpoint 2
+problem 124
+stage = 5
+[[method]]
+letter = \"A\"
+notation = \"5.1.5.1.5,125\"
+[[call]]
+mark = \"b\"
+notation = \"145\"
+[query]
+min = 1
+max = 120
+
+found 0
+jobs 1
+job 1
+0 p
+end
+block 180
+ringsearch checkpoint 2
+problem 124
+stage = 5
+[[method]]
+letter = \"A\"
+notation = \"5.1.5.1.5,125\"
+[[call]]
+mark = \"b\"
+notation = \"145\"
+[query]
+min = 1
+max = 120
+
+found 0
+jobs 0
+end
+";
+
+// Its one shard as a block.
+const ONE: &str = "block 194
+ringsearch checkpoint 2
+problem 124
+stage = 5
+[[method]]
+letter = \"A\"
+notation = \"5.1.5.1.5,125\"
+[[call]]
+mark = \"b\"
+notation = \"145\"
+[query]
+min = 1
+max = 120
+
+found 0
+jobs 1
+job 2
+0 b
+0 p
+end
+";
+
+// The first shard twice.
+const TWICE: &str = "block 190
+ringsearch checkpoint 2
+problem 124
+stage = 5
+[[method]]
+letter = \"A\"
+notation = \"5.1.5.1.5,125\"
+[[call]]
+mark = \"b\"
+notation = \"145\"
+[query]
+min = 1
+max = 120
+
+found 0
+jobs 1
+job 1
+0 b
+end
+block 190
+ringsearch checkpoint 2
+problem 124
+stage = 5
+[[method]]
+letter = \"A\"
+notation = \"5.1.5.1.5,125\"
+[[call]]
+mark = \"b\"
+notation = \"145\"
+[query]
+min = 1
+max = 120
+
+found 0
+jobs 1
+job 1
+0 b
+end
+";
+
+// Plain Bob Minimus cut into one.
+const ROOT: &str = "block 147
+ringsearch checkpoint 2
+problem 82
+stage = 4
+[[method]]
+letter = \"A\"
+notation = \"x14x14,12\"
+[query]
+min = 1
+max = 24
+
+found 0
+jobs 1
+job 1
+0 -
+end
+";
+
+// The first shard, and that of another problem.
+const OTHER: &str = "block 190
+ringsearch checkpoint 2
+problem 124
+stage = 5
+[[method]]
+letter = \"A\"
+notation = \"5.1.5.1.5,125\"
+[[call]]
+mark = \"b\"
+notation = \"145\"
+[query]
+min = 1
+max = 120
+
+found 0
+jobs 1
+job 1
+0 b
+end
+block 147
+ringsearch checkpoint 2
+problem 82
+stage = 4
+[[method]]
+letter = \"A\"
+notation = \"x14x14,12\"
+[query]
+min = 1
+max = 24
+
+found 0
+jobs 1
+job 1
+0 -
+end
+";
+
+// What the first shard covers.
+const FIRST_BOOK: &str = "20 bb\ntouches 1\n";
+
+// What the second shard covers.
+const SECOND_BOOK: &str = "40 pppp\n60 pbpbpb\n100 ppbpbppbpb\n120 pppbpppbpppb\ntouches 4\n";
+
+const CUT: &[&str] = &["--do", "cut", "--into", "2"];
+
+const JOIN: &[&str] = &["--do", "join"];
+
+// The words, what is read, and how the call ends.
+const CALLS: &[(&[&str], &str, Ending<'static>)] = &[
+    (CUT, WHOLE, (0, TWO, "")),
+    (&["--do", "cut", "--into", "3"], WHOLE, (0, THREE, "")),
+    (&["--do", "cut"], WHOLE, (0, ONE, "")),
+    (&["--do", "cut"], MINIMUS, (0, ROOT, "")),
+    (&[], FIRST, (0, FIRST_BOOK, "")),
+    (&[], SECOND, (0, SECOND_BOOK, "")),
+    (JOIN, TWO, (0, WHOLE, "")),
+    (JOIN, THREE, (0, WHOLE, "")),
+    (JOIN, TWICE, (11, "", "ringsearch: join 5 Overlap 0 1\n")),
+    (
+        JOIN,
+        OTHER,
+        (11, "", "ringsearch: join 4 OtherProblem 1 8\n"),
+    ),
+    (JOIN, "", (11, "", "ringsearch: join 2 Blocks 0\n")),
+    (
+        JOIN,
+        "block 2\nab",
+        (11, "", "ringsearch: join 3 Check 0 1 Form 1\n"),
+    ),
+    (JOIN, "book", (11, "", "ringsearch: join 1 Form 1\n")),
+    (CUT, "", (4, "", "ringsearch: problem 2 Key stage\n")),
+    (
+        CUT,
+        "ringsearch checkpoint 3\n",
+        (5, "", "ringsearch: checkpoint 1 Form 1\n"),
+    ),
+    (
+        &["--do", "cut", "--into", "0"],
+        WHOLE,
+        (2, "", "ringsearch: words 9 Into\n"),
+    ),
+];
+
+#[test]
+fn searches_are_cut_and_joined(rt: HostRuntime) -> Result<(), Fail> {
+    for &(words, input, ending) in CALLS {
+        check(ending.1, ends(&rt, words, input.as_bytes(), ending)?)?;
+    }
+    Ok(())
+}
+
+#[test]
+fn shards_that_end_early_are_told_by_their_length(rt: HostRuntime) -> Result<(), Fail> {
+    check("400 bytes", TWO.len() == 400)?;
+    let front = TWO.as_bytes().get(..399).unwrap_or_default();
+    let ending = (11, "", "ringsearch: join 1 Form 399\n");
+    check("399 bytes", ends(&rt, JOIN, front, ending)?)
+}
+
+const UNREAD: Ending<'static> = (6, "", "ringsearch: read failed\n");
+
+const UNWRITTEN: Ending<'static> = (7, "", "ringsearch: write failed\n");
+
+// The words, and what is read.
+const FAILING: &[(&[&str], &str)] = &[(CUT, WHOLE), (JOIN, TWO)];
+
+#[test]
+fn reads_and_writes_that_fail_are_told(rt: HostRuntime) -> Result<(), Fail> {
+    for &(words, input) in FAILING {
+        check(
+            "a read",
+            ends_with(&rt, words, input.as_bytes(), 50, (2, 0, 0), UNREAD)?,
+        )?;
+        check(
+            "a write",
+            ends_with(&rt, words, input.as_bytes(), 50, (0, 1, 0), UNWRITTEN)?,
+        )?;
+    }
+    Ok(())
+}
