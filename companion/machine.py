@@ -49,6 +49,7 @@ def usable_memory() -> int:
 def bounded(memory: int) -> Callable[[], None]:
     """What a new process does first: it takes no more than so many bytes, and ends where the one that started it does."""
     call = _death_signal()
+    starter = os.getpid()
 
     def begin() -> None:
         hard = resource.getrlimit(resource.RLIMIT_AS)[1]
@@ -56,6 +57,9 @@ def bounded(memory: int) -> Callable[[], None]:
         resource.setrlimit(resource.RLIMIT_AS, (most, hard))
         if call:
             call(SET_DEATH_SIGNAL, signal.SIGKILL)
+        # No signal comes of an end that was before.
+        if os.getppid() != starter:
+            os._exit(1)
 
     return begin
 

@@ -15,7 +15,7 @@ import unittest
 from pathlib import Path
 from unittest import mock
 
-from companion import ending, interrupts, progress
+from companion import ending, interrupts, machine, progress
 from companion.checkpoint import Checkpoint, Leads, block_places, checkpoint_text, read_checkpoint
 from companion.command import main
 from companion.engine import Engine
@@ -225,6 +225,39 @@ class Killed(InFolder):
             while any(map(is_at_work, pids.read_text().split())) and time.monotonic() < until:
                 time.sleep(0.05)
             self.assertFalse(list(filter(is_at_work, pids.read_text().split())))
+
+
+class Bounded(unittest.TestCase):
+    def test_what_was_started_ends_with_its_starter(self):
+        """Also where the starter ends before the new process has done anything."""
+        for waits in (False, True):
+            with self.subTest(waits=waits):
+                source, sink = os.pipe()
+                starter = FORK.Process(target=self.start, args=(sink, waits))
+                starter.start()
+                os.close(sink)
+                with open(source, "rb") as told:
+                    if not waits:
+                        self.assertEqual(told.read(5), b"begun")
+                        starter.kill()
+                    # The other end is closed as soon as no process is left.
+                    self.assertEqual(told.read(), b"")
+                starter.join()
+
+    @staticmethod
+    def start(sink, waits):
+        """Starts a process that tells when it begins, and sleeps then; it may wait first until its starter is gone."""
+        starter = os.getpid()
+        begin = machine.bounded(machine.GIGABYTE)
+        if os.fork() == 0:
+            while waits and os.getppid() == starter:
+                time.sleep(MOMENT)
+            begin()
+            os.write(sink, b"begun")
+            time.sleep(PATIENCE)
+        elif not waits:
+            time.sleep(PATIENCE)
+        os._exit(0)
 
 
 class Signals(unittest.TestCase):
