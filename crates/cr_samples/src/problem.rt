@@ -31,19 +31,6 @@ fn place_of(digit: u8) -> u8 {
     }
 }
 
-/// Asks for each touch of at most so many changes.
-pub fn any_touch(alloc: Global, max: i64) -> Query {
-    Query {
-        min: 1,
-        max,
-        parts: 1,
-        counts: Vec::new(alloc),
-        method_counts: Vec::new(alloc),
-        patterns: Vec::new(alloc),
-        com: None,
-    }
-}
-
 /// What a draft asks for. Err where no memory is left.
 pub fn query_of(alloc: Global, draft: &Draft) -> Result<Query, Fail> {
     let mut patterns = Vec::new(alloc);

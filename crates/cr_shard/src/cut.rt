@@ -46,11 +46,20 @@ pub fn cut_blocks(
 fn all_nodes<'a>(alloc: Global, jobs: &'a [Vec<Node>]) -> Result<Vec<&'a Node>, NoMemory>
     ensures { IfOk result (λ nodes. nodes_seen nodes.items ≡ nodes_of_jobs (lists jobs.now)) }
 {
-    let mut nodes = Vec::new(alloc);
+    let mut nodes = Vec::with_capacity(alloc, number_of_nodes(jobs))?;
     for job in jobs {
         add_nodes(&mut nodes, job)?;
     }
     Ok(nodes)
+}
+
+// How many nodes there are in all; where they are more than a number can tell, the greatest.
+fn number_of_nodes(jobs: &[Vec<Node>]) -> usize {
+    let mut number: usize = 0;
+    for job in jobs {
+        number = number.saturating_add(job.len());
+    }
+    number
 }
 
 // Appends the nodes of a job.
@@ -75,7 +84,7 @@ fn nodes_of(alloc: Global, nodes: &[&Node], into: u32, shard: u32) -> Result<Vec
     requires { shard < into }
     ensures { IfOk result (λ dealt. dealt.items ≡ dealt_nodes into shard (nodes_seen nodes.now)) }
 {
-    let mut dealt = Vec::new(alloc);
+    let mut dealt = Vec::with_capacity(alloc, nodes.len() / into as usize + 1)?;
     let mut place = shard as usize;
     while place < nodes.len() {
         dealt.push(nodes[place].copy(alloc)?)?;

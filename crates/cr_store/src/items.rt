@@ -36,12 +36,21 @@ pub fn read_items(alloc: Global, problem: &Problem, shape: &Shape) -> Result<Ite
     if !read_touches(alloc, problem, &shape.found, &mut found)? {
         return Err(CheckFault::Calling(line_of(shape, found.len())));
     }
-    let mut nodes = Vec::new(alloc);
+    let mut nodes = Vec::with_capacity(alloc, number_of_nodes(shape))?;
     if !read_nodes(alloc, problem, shape, &mut nodes)? {
         let item = found.len() + nodes.len();
         return Err(CheckFault::Calling(line_of(shape, item)));
     }
     Ok(Items { found, nodes })
+}
+
+// How many lines of nodes there are in all; where they are more than a number can tell, the greatest.
+fn number_of_nodes(shape: &Shape) -> usize {
+    let mut number: usize = 0;
+    for job in &shape.jobs {
+        number = number.saturating_add(job.len());
+    }
+    number
 }
 
 /// Checks the found touches and nodes of all lines.

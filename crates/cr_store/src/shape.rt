@@ -145,6 +145,11 @@ fn found_part<'a>(alloc: Global, text: &'a [u8]) -> Result<(Vec<FoundLine<'a>>, 
     }
 }
 
+// Room for so many lines, where the text may have them: each has two bytes at least.
+fn room_for(count: u64, text: &[u8]) -> usize {
+    count.min(text.len() as u64 / 2) as usize
+}
+
 fn found_lines<'a>(
     alloc: Global,
     count: u64,
@@ -153,7 +158,7 @@ fn found_lines<'a>(
     ensures found { IfOk result (λ x. AreRead found_text IsFoundLine count text.now (map found_parts x.0.items) x.1.now) }
     ensures stops { IfErr result (λ why. (version : ℕ) → Stops (AtFound version count) text.now why) }
 {
-    let mut found = Vec::new(alloc);
+    let mut found = Vec::with_capacity(alloc, room_for(count, text))?;
     let mut rest = text;
     for _done in 0..count {
         let Some((line, after)) = take_found(rest) else {
@@ -232,7 +237,7 @@ fn node_lines<'a>(
     ensures nodes { IfOk result (λ x. AreRead (node_text version) (IsNodeLine version) count text.now (job_parts x.0) x.1.now) }
     ensures stops { IfErr result (λ why. (n : ℕ) → Stops (AtNodes version (AtJobs version n) count) text.now why) }
 {
-    let mut nodes = Vec::new(alloc);
+    let mut nodes = Vec::with_capacity(alloc, room_for(count, text))?;
     let mut rest = text;
     for _done in 0..count {
         let Some((line, after)) = take_node(version, rest) else {

@@ -1,294 +1,64 @@
 //! What no clause says: searches that are cut, searched in shards and joined, with ample memory, and what does not belong
 //! together.
 
+use crate::checkpoints::{doubles, minimus};
 use crate::stop_tests::MINIMUS;
 use crate::test_calls::{Ending, check, ends, ends_with};
 use std::test::Fail;
 
 // A checkpoint of Plain Bob Doubles with two jobs, of 200 bytes.
-const WHOLE: &str = "ringsearch checkpoint 2
-problem 124
-stage = 5
-[[method]]
-letter = \"A\"
-notation = \"5.1.5.1.5,125\"
-[[call]]
-mark = \"b\"
-notation = \"145\"
-[query]
-min = 1
-max = 120
-
-found 0
-jobs 2
-job 1
-0 b
-job 1
-0 p
-end
-";
+const WHOLE: &str = doubles! {
+    "", "found 0\njobs 2\njob 1\n0 b\njob 1\n0 p\nend\n";
+};
 
 // Its first shard of two.
-const FIRST: &str = "ringsearch checkpoint 2
-problem 124
-stage = 5
-[[method]]
-letter = \"A\"
-notation = \"5.1.5.1.5,125\"
-[[call]]
-mark = \"b\"
-notation = \"145\"
-[query]
-min = 1
-max = 120
-
-found 0
-jobs 1
-job 1
-0 b
-end
-";
+const FIRST: &str = doubles! {
+    "", "found 0\njobs 1\njob 1\n0 b\nend\n";
+};
 
 // Its second shard of two.
-const SECOND: &str = "ringsearch checkpoint 2
-problem 124
-stage = 5
-[[method]]
-letter = \"A\"
-notation = \"5.1.5.1.5,125\"
-[[call]]
-mark = \"b\"
-notation = \"145\"
-[query]
-min = 1
-max = 120
-
-found 0
-jobs 1
-job 1
-0 p
-end
-";
+const SECOND: &str = doubles! {
+    "", "found 0\njobs 1\njob 1\n0 p\nend\n";
+};
 
 // Both as blocks, of 400 bytes.
-const TWO: &str = "block 190
-ringsearch checkpoint 2
-problem 124
-stage = 5
-[[method]]
-letter = \"A\"
-notation = \"5.1.5.1.5,125\"
-[[call]]
-mark = \"b\"
-notation = \"145\"
-[query]
-min = 1
-max = 120
-
-found 0
-jobs 1
-job 1
-0 b
-end
-block 190
-ringsearch checkpoint 2
-problem 124
-stage = 5
-[[method]]
-letter = \"A\"
-notation = \"5.1.5.1.5,125\"
-[[call]]
-mark = \"b\"
-notation = \"145\"
-[query]
-min = 1
-max = 120
-
-found 0
-jobs 1
-job 1
-0 p
-end
-";
+const TWO: &str = doubles! {
+    "block 190\n", "found 0\njobs 1\njob 1\n0 b\nend\n";
+    "block 190\n", "found 0\njobs 1\njob 1\n0 p\nend\n";
+};
 
 // Its three shards as blocks.
-const THREE: &str = "block 190
-ringsearch checkpoint 2
-problem 124
-stage = 5
-[[method]]
-letter = \"A\"
-notation = \"5.1.5.1.5,125\"
-[[call]]
-mark = \"b\"
-notation = \"145\"
-[query]
-min = 1
-max = 120
-
-found 0
-jobs 1
-job 1
-0 b
-end
-block 190
-ringsearch checkpoint 2
-problem 124
-stage = 5
-[[method]]
-letter = \"A\"
-notation = \"5.1.5.1.5,125\"
-[[call]]
-mark = \"b\"
-notation = \"145\"
-[query]
-min = 1
-max = 120
-
-found 0
-jobs 1
-job 1
-0 p
-end
-block 180
-ringsearch checkpoint 2
-problem 124
-stage = 5
-[[method]]
-letter = \"A\"
-notation = \"5.1.5.1.5,125\"
-[[call]]
-mark = \"b\"
-notation = \"145\"
-[query]
-min = 1
-max = 120
-
-found 0
-jobs 0
-end
-";
+const THREE: &str = doubles! {
+    "block 190\n", "found 0\njobs 1\njob 1\n0 b\nend\n";
+    "block 190\n", "found 0\njobs 1\njob 1\n0 p\nend\n";
+    "block 180\n", "found 0\njobs 0\nend\n";
+};
 
 // Its one shard as a block.
-const ONE: &str = "block 194
-ringsearch checkpoint 2
-problem 124
-stage = 5
-[[method]]
-letter = \"A\"
-notation = \"5.1.5.1.5,125\"
-[[call]]
-mark = \"b\"
-notation = \"145\"
-[query]
-min = 1
-max = 120
-
-found 0
-jobs 1
-job 2
-0 b
-0 p
-end
-";
+const ONE: &str = doubles! {
+    "block 194\n", "found 0\njobs 1\njob 2\n0 b\n0 p\nend\n";
+};
 
 // The first shard twice.
-const TWICE: &str = "block 190
-ringsearch checkpoint 2
-problem 124
-stage = 5
-[[method]]
-letter = \"A\"
-notation = \"5.1.5.1.5,125\"
-[[call]]
-mark = \"b\"
-notation = \"145\"
-[query]
-min = 1
-max = 120
-
-found 0
-jobs 1
-job 1
-0 b
-end
-block 190
-ringsearch checkpoint 2
-problem 124
-stage = 5
-[[method]]
-letter = \"A\"
-notation = \"5.1.5.1.5,125\"
-[[call]]
-mark = \"b\"
-notation = \"145\"
-[query]
-min = 1
-max = 120
-
-found 0
-jobs 1
-job 1
-0 b
-end
-";
+const TWICE: &str = doubles! {
+    "block 190\n", "found 0\njobs 1\njob 1\n0 b\nend\n";
+    "block 190\n", "found 0\njobs 1\njob 1\n0 b\nend\n";
+};
 
 // Plain Bob Minimus cut into one.
-const ROOT: &str = "block 147
-ringsearch checkpoint 2
-problem 82
-stage = 4
-[[method]]
-letter = \"A\"
-notation = \"x14x14,12\"
-[query]
-min = 1
-max = 24
-
-found 0
-jobs 1
-job 1
-0 -
-end
-";
+const ROOT: &str = minimus! {
+    "block 147\n", "found 0\njobs 1\njob 1\n0 -\nend\n";
+};
 
 // The first shard, and that of another problem.
-const OTHER: &str = "block 190
-ringsearch checkpoint 2
-problem 124
-stage = 5
-[[method]]
-letter = \"A\"
-notation = \"5.1.5.1.5,125\"
-[[call]]
-mark = \"b\"
-notation = \"145\"
-[query]
-min = 1
-max = 120
-
-found 0
-jobs 1
-job 1
-0 b
-end
-block 147
-ringsearch checkpoint 2
-problem 82
-stage = 4
-[[method]]
-letter = \"A\"
-notation = \"x14x14,12\"
-[query]
-min = 1
-max = 24
-
-found 0
-jobs 1
-job 1
-0 -
-end
-";
+const OTHER: &str = concat!(
+    doubles! {
+        "block 190\n", "found 0\njobs 1\njob 1\n0 b\nend\n";
+    },
+    minimus! {
+        "block 147\n", "found 0\njobs 1\njob 1\n0 -\nend\n";
+    }
+);
 
 // What the first shard covers.
 const FIRST_BOOK: &str = "20 bb\ntouches 1\n";

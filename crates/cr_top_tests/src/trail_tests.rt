@@ -2,6 +2,7 @@
 
 ghost use Rattle.std.specs.Prelude.{◌≤◌};
 
+use crate::checkpoints::minimus;
 use crate::stop_tests::{ALL_DOUBLES, DOUBLES, MINIMUS};
 use crate::test_calls::{Ending, answered, check, ends, words_of};
 use cr_io::{MemSink, SureSource};
@@ -13,36 +14,11 @@ use std::sync::Wait;
 use std::test::Fail;
 use std::thread::Threads;
 
-// The blocks of a trail of Plain Bob Minimus: of each its size, and the lines of its checkpoint after the problem.
-macro_rules! trail {
-    ($($size:literal, $lines:literal;)*) => {
-        concat!(
-            $(
-                "block ",
-                $size,
-                "
-ringsearch checkpoint 2
-problem 82
-stage = 4
-[[method]]
-letter = \"A\"
-notation = \"x14x14,12\"
-[query]
-min = 1
-max = 24
-
-",
-                $lines,
-            )*
-        )
-    };
-}
-
 // The trail with a checkpoint after each two turns.
-const TRAIL: &str = trail! {
-    147, "found 0\njobs 1\njob 1\n0 -\nend\n";
-    148, "found 0\njobs 1\njob 1\n0 pp\nend\n";
-    144, "found 1\n24 ppp\njobs 0\nend\n";
+const TRAIL: &str = minimus! {
+    "block 147\n", "found 0\njobs 1\njob 1\n0 -\nend\n";
+    "block 148\n", "found 0\njobs 1\njob 1\n0 pp\nend\n";
+    "block 144\n", "found 1\n24 ppp\njobs 0\nend\n";
 };
 
 const BOOK: &str = "24 ppp\ntouches 1\n";

@@ -8,7 +8,7 @@ pub loop-place-init : goal.loop-place-init
 loop-place-init c =
     let first = first_round c.args.into c.args.shard (nodes_seen c.args.nodes.now) c.requires in
     let rest = dealt_from c.args.into c.args.shard c.args.shard (drop c.args.shard (nodes_seen c.args.nodes.now)) in
-    (first.0, ap (λ l. l ++ rest) c.new-dealt.ensures.items ∙ first.1)
+    (first.0, ap (λ l. l ++ rest) c.in_ok-dealt.ensures.items ∙ first.1)
 
 pub loop-place-preserved : goal.loop-place-preserved
 loop-place-preserved c =
