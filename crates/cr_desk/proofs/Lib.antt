@@ -1,3 +1,4 @@
+pub mod Claims
 pub mod Ones
 pub mod Seats
 pub mod Strangers

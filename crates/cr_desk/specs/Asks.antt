@@ -4,10 +4,12 @@ use Rattle.cr_row.specs.declared.NoMemory.{NoMemory}
 use Rattle.cr_model.specs.Problems.{ProblemParts}
 use Rattle.cr_board.specs.Jobs.{TicketParts}
 use Rattle.cr_board.specs.Boards.{BoardParts}
-use Rattle.cr_board.specs.Choices.{next_answer}
-use Rattle.cr_board.specs.Moves.{after_next}
+use Rattle.cr_board.specs.Choices.{next_answer, claim_answer}
+use Rattle.cr_board.specs.Moves.{after_next, after_claim}
 use Rattle.cr_board.specs.declared.taken.Taken.{Taken}
 use Rattle.cr_board.specs.declared.taken.Taken.TheVariants as taken
+use Rattle.cr_board.specs.declared.taken.Claimed.{Claimed}
+use Rattle.cr_board.specs.declared.taken.Claimed.TheVariants as claimed
 use Rattle.cr_desk.specs.declared.duty.Duty.{Duty}
 use Rattle.cr_desk.specs.declared.duty.Duty.TheVariants as duty
 
@@ -17,6 +19,12 @@ abbrev pub Asks : BoardParts → ProblemParts → ℕ → Result (Option Taken) 
 Asks b p worker (Ok None) after = (b.opening.problem ≢ p) × (after ≡ b)
 Asks b p worker (Ok (Some answer)) after = (b.opening.problem ≡ p) × (answer ≡ next_answer b worker) × (after ≡ after_next b worker)
 Asks b p worker (Err e) after = after ≡ b
+
+-- a worker's claim of the job of a number, likewise
+abbrev pub Claims : BoardParts → ProblemParts → ℕ → ℕ → Result (Option Claimed) NoMemory → BoardParts → Type 0
+Claims b p worker number (Ok None) after = (b.opening.problem ≢ p) × (after ≡ b)
+Claims b p worker number (Ok (Some answer)) after = (b.opening.problem ≡ p) × (answer ≡ claim_answer b worker number) × (after ≡ after_claim b worker number)
+Claims b p worker number (Err e) after = after ≡ b
 
 -- what holds of the job that is to be explored
 abbrev pub IfExplore : Duty → (TicketParts → Type 0) → Type 0
@@ -54,3 +62,17 @@ IfNoWork (Ok (Some taken.Spent)) P = P
 IfNoWork (Ok (Some (taken.Job ticket))) P = ⊤
 IfNoWork (Ok (Some (taken.Wait worker))) P = ⊤
 IfNoWork (Ok (Some taken.Empty)) P = P
+
+-- what holds where the answer to a claim is that a worker gets no job any more: it is a stranger, or the budget is spent
+abbrev pub IfEnded : Claimed → Type 0 → Type 0
+IfEnded claimed.Stranger P = P
+IfEnded (claimed.Holding number) P = ⊤
+IfEnded claimed.Spent P = P
+IfEnded claimed.Stale P = ⊤
+IfEnded (claimed.Job ticket) P = ⊤
+
+-- what holds where a worker that claims a job is answered that it has nothing to do
+abbrev pub IfNoClaim : Result (Option Claimed) NoMemory → Type 0 → Type 0
+IfNoClaim (Err e) P = ⊤
+IfNoClaim (Ok None) P = P
+IfNoClaim (Ok (Some answer)) P = IfEnded answer P

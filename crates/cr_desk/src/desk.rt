@@ -9,10 +9,11 @@ ghost use Rattle.cr_board.specs.Partitions.{IsKept};
 ghost use Rattle.cr_desk.specs.Asks.{IfExplore, IfLeave, HasNoWork};
 
 use crate::duty::Duty;
+use crate::hints::{Hints, NoHints};
 use crate::locked::Locked;
 use crate::seat::{Seat, merged, seats_of};
-use cr_board::{Board, Handed, Taken, Ticket};
-use cr_node::Explorer;
+use cr_board::{Board, Claimed, Handed, Taken, Ticket};
+use cr_node::{Done, Explorer};
 use cr_row::NoMemory;
 use std::alloc::Global;
 use std::hint::spin_loop;
@@ -26,6 +27,10 @@ const LOOKS: u32 = 1_000;
 
 // After so many looks it lets others run between two, such as the one that has the lock.
 const LOOKS_AT_ONCE: u32 = 200;
+
+// How many stale hints in a row a worker claims before it asks for any job: after the first it asks for 65 more, so that
+// each of 64 lanes may give one.
+const MOST_STALE: u32 = 66;
 
 /// A board under a lock, for workers that explore its jobs side by side, and a signal for those that wait for a job.
 ///
@@ -87,7 +92,26 @@ impl<L: Ledger> Desk<L> {
         ensures parts { seat.new.share.parts ≡ seat.old.share.parts }
         ensures amount { seat.old.share.amount ≤ seat.new.share.amount }
     {
-        drop(self.worked(rt, alloc, explorer, seat));
+        self.work_by(rt, alloc, explorer, seat, &mut NoHints);
+    }
+
+    /// Works at a seat as [`Desk::work`] does, but first claims the job of a number that its hints give. Where they give
+    /// none, or only numbers of no open job for a while, it takes its next job as the board tells it. Its hints get the
+    /// numbers of the jobs that it opened.
+    pub fn work_by<R: Wait, E: Explorer, H: Hints>(
+        &self,
+        rt: &R,
+        alloc: Global,
+        explorer: &E,
+        seat: &mut Seat<L>,
+        hints: &mut H,
+    )
+        ensures worker { seat.new.worker ≡ seat.old.worker }
+        ensures parts { seat.new.share.parts ≡ seat.old.share.parts }
+        ensures amount { seat.old.share.amount ≤ seat.new.share.amount }
+        ensures key { H.key hints.new ≡ H.key hints.old }
+    {
+        drop(self.worked(rt, alloc, explorer, seat, hints));
         // Whoever waits, waits for one that holds a job. That one asks again, until it leaves: it may have held the last
         // job, or leave one behind.
         self.changed.notify_all();
@@ -129,24 +153,26 @@ impl<L: Ledger> Desk<L> {
     }
 
     // Works at a seat until there is nothing to do for it any more, and gives the lock under which that is so.
-    fn worked<'a, R: Wait, E: Explorer>(
+    fn worked<'a, R: Wait, E: Explorer, H: Hints>(
         &'a self,
         rt: &R,
         alloc: Global,
         explorer: &E,
         seat: &mut Seat<L>,
+        hints: &mut H,
     ) -> MutexGuard<'a, Locked<L>>
         ensures none { HasNoWork (mutex_guard_value result).board (E.explores explorer.now) seat.old.worker }
         ensures worker { seat.new.worker ≡ seat.old.worker }
         ensures parts { seat.new.share.parts ≡ seat.old.share.parts }
         ensures amount { seat.old.share.amount ≤ seat.new.share.amount }
+        ensures key { H.key hints.new ≡ H.key hints.old }
     {
         for _ in rt.forever() {
-            let (locked, duty) = self.ask(rt, alloc, explorer, seat);
+            let (locked, duty) = self.ask_by(rt, alloc, explorer, seat, hints);
             match duty {
                 Duty::Explore(ticket) => {
                     drop(locked);
-                    if !self.explore(rt, alloc, explorer, seat, &ticket) {
+                    if !self.explore(rt, alloc, explorer, seat, &ticket, hints) {
                         return resigned(self.lock(rt), seat);
                     }
                 }
@@ -155,6 +181,64 @@ impl<L: Ledger> Desk<L> {
             }
         }
         unreachable!()
+    }
+
+    // Claims the jobs that its hints give, until an answer that is not stale; after none, or too many stale ones, asks for a
+    // worker's next job. The lock is the one under which the answer was given.
+    fn ask_by<'a, R: Wait, E: Explorer, H: Hints>(
+        &'a self,
+        rt: &R,
+        alloc: Global,
+        explorer: &E,
+        seat: &mut Seat<L>,
+        hints: &mut H,
+    ) -> (MutexGuard<'a, Locked<L>>, Duty)
+        ensures job { IfExplore result.1 (λ ticket. IsJob (E.explores explorer.now) ticket.nodes) }
+        ensures none { IfLeave result.1 (HasNoWork (mutex_guard_value result.0).board (E.explores explorer.now) seat.old.worker) }
+        ensures worker { seat.new.worker ≡ seat.old.worker }
+        ensures parts { seat.new.share.parts ≡ seat.old.share.parts }
+        ensures amount { seat.old.share.amount ≤ seat.new.share.amount }
+        ensures key { H.key hints.new ≡ H.key hints.old }
+    {
+        for _ in 0..MOST_STALE {
+            let Some(number) = hints.next(rt) else {
+                break;
+            };
+            if let Some(answer) = self.claim(rt, alloc, explorer, seat, number) {
+                return answer;
+            }
+        }
+        self.ask(rt, alloc, explorer, seat)
+    }
+
+    // Claims the job of a number. None where the number is stale, else the lock under which the answer was given.
+    fn claim<'a, R: Wait, E: Explorer>(
+        &'a self,
+        rt: &R,
+        alloc: Global,
+        explorer: &E,
+        seat: &mut Seat<L>,
+        number: u64,
+    ) -> Option<(MutexGuard<'a, Locked<L>>, Duty)>
+        ensures job { IfSome result (λ answer. IfExplore answer.1 (λ ticket. IsJob (E.explores explorer.now) ticket.nodes)) }
+        ensures none { IfSome result (λ answer. IfLeave answer.1 (HasNoWork (mutex_guard_value answer.0).board (E.explores explorer.now) seat.old.worker)) }
+        ensures worker { seat.new.worker ≡ seat.old.worker }
+        ensures parts { seat.new.share.parts ≡ seat.old.share.parts }
+        ensures amount { seat.old.share.amount ≤ seat.new.share.amount }
+    {
+        let mut locked = self.lock(rt);
+        match locked.claim(
+            alloc,
+            explorer.problem(),
+            seat.worker,
+            number,
+            &mut seat.share,
+        ) {
+            Ok(Some(Claimed::Job(ticket))) => Some((locked, Duty::Explore(ticket))),
+            Ok(Some(Claimed::Stale)) => None,
+            Ok(Some(Claimed::Holding(_))) | Err(NoMemory) => Some((locked, Duty::Resign)),
+            Ok(None | Some(Claimed::Stranger | Claimed::Spent)) => Some((locked, Duty::Leave)),
+        }
     }
 
     // Asks for a worker's next job until the answer is not to wait. The lock is the one under which it was given.
@@ -186,32 +270,70 @@ impl<L: Ledger> Desk<L> {
     }
 
     // Explores a job that a worker holds, and hands it in. False where it finds no memory or the board refuses it.
-    fn explore<R: Wait, E: Explorer>(
+    fn explore<R: Wait, E: Explorer, H: Hints>(
         &self,
         rt: &R,
         alloc: Global,
         explorer: &E,
         seat: &mut Seat<L>,
         ticket: &Ticket,
+        hints: &mut H,
     ) -> bool
         requires { IsJob (E.explores explorer.now) ticket.now.nodes }
         ensures worker { seat.new.worker ≡ seat.old.worker }
         ensures parts { seat.new.share.parts ≡ seat.old.share.parts }
         ensures amount { seat.old.share.amount ≤ seat.new.share.amount }
+        ensures key { H.key hints.new ≡ H.key hints.old }
     {
         let Ok(done) = explorer.explore(alloc, &ticket.nodes, ticket.grant) else {
             return false;
         };
-        let opens_two = done.rest().len() > 1;
+        self.hand_in(rt, seat, ticket.number, done, hints)
+    }
+
+    // Hands in finished work on a job that a worker holds, and gives its hints the numbers of the jobs that it opened. False
+    // where the board refuses it.
+    fn hand_in<R: Wait, H: Hints>(
+        &self,
+        rt: &R,
+        seat: &mut Seat<L>,
+        number: u64,
+        done: Done,
+        hints: &mut H,
+    ) -> bool
+        ensures worker { seat.new.worker ≡ seat.old.worker }
+        ensures parts { seat.new.share.parts ≡ seat.old.share.parts }
+        ensures amount { seat.old.share.amount ≤ seat.new.share.amount }
+        ensures key { H.key hints.new ≡ H.key hints.old }
+    {
+        // What is left is opened as two jobs at most.
+        let opened = done.rest().len().min(2);
         let mut locked = self.lock(rt);
-        let handed = locked.hand_in(seat.worker, ticket.number, done, &mut seat.share);
-        drop(locked);
+        let handed = locked.hand_in(seat.worker, number, done, &mut seat.share);
         let taken = matches!(handed, Handed::In);
+        if taken {
+            put_last(&locked.board, seat.worker, opened, hints);
+        }
+        drop(locked);
         // Of two jobs this worker takes one, and one that waits the other.
-        if taken && opens_two {
+        if taken && opened > 1 {
             self.changed.notify_one();
         }
         taken
+    }
+}
+
+// Gives hints the numbers of the last jobs of a worker's lane, so many of them.
+fn put_last<H: Hints>(board: &Board, worker: u32, count: usize, hints: &mut H)
+    ensures { H.key hints.new ≡ H.key hints.old }
+{
+    if worker >= board.opening().workers() {
+        return;
+    }
+    let lane = board.lane(worker);
+    let first = lane.len().saturating_sub(count);
+    for job in &lane[first..] {
+        hints.put(job.number);
     }
 }
 

@@ -8,6 +8,7 @@
 //! - [`Desk::open`]: a desk over a board with an empty journal, and a seat for each of its workers.
 //! - [`Desk::work`]: works at a seat until there is nothing to do any more. A worker that finds no memory resigns,
 //!   and its job goes back.
+//! - [`Desk::work_by`]: the same, by [`Hints`] at jobs that may be open, which it claims by their numbers.
 //! - [`Desk::close`]: gives the board back, and how many entries its journal has.
 //! - [`Seat`]: a worker's place, which only that worker's thread has.
 //!
@@ -30,8 +31,10 @@
 
 mod desk;
 mod duty;
+mod hints;
 mod locked;
 mod seat;
 
 pub use desk::Desk;
+pub use hints::{Hints, NoHints};
 pub use seat::Seat;

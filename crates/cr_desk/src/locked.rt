@@ -1,14 +1,14 @@
 //! What a desk keeps under its lock: the board, and the book of the ledger.
 
-ghost use Rattle.std.specs.Prelude.{◌≡◌, ◌+◌, ◌<◌, ◌≤◌, cond, nat_lt, length, IfOk, IfSome, OnOk, OnErr};
+ghost use Rattle.std.specs.Prelude.{◌≡◌, ◌+◌, ◌<◌, ◌≤◌, ◌↔◌, cond, nat_lt, length, IfOk, IfSome, IsTrue, OnOk, OnErr};
 ghost use Rattle.cr_node.specs.Work.{IsJob};
-ghost use Rattle.cr_board.specs.Choices.{next_answer, IfJob, UnlessTaken};
-ghost use Rattle.cr_board.specs.Moves.{HandsIn, after_next, after_resigning};
+ghost use Rattle.cr_board.specs.Choices.{next_answer, claim_answer, IfJob, IfClaimed, UnlessTaken, UnlessClaimed};
+ghost use Rattle.cr_board.specs.Moves.{HandsIn, after_next, after_claim, after_resigning};
 ghost use Rattle.cr_board.specs.declared.taken.Taken.TheVariants.{Stranger};
-ghost use Rattle.cr_desk.specs.Asks.{Asks, IfNoWork, HasNoWork};
+ghost use Rattle.cr_desk.specs.Asks.{Asks, Claims, EndsWork, IfNoWork, IfNoClaim, IfEnded, HasNoWork};
 
 use cr_board::laws::{a_ticket_has_a_job, journals_grow_by_their_entries};
-use cr_board::{Board, Handed, Taken};
+use cr_board::{Board, Claimed, Handed, Taken};
 use cr_model::Problem;
 use cr_node::Done;
 use cr_row::NoMemory;
@@ -43,10 +43,40 @@ impl<L: Ledger> Locked<L> {
         ensures amount { mine.old.amount ≤ mine.new.amount }
         ensures counted { mine.new.amount + length self.old.board.journal ≡ mine.old.amount + length self.new.board.journal }
     {
-        if !self.board.opening().problem().same(problem) {
+        if !self.is_of(problem) {
             return Ok(None);
         }
         Ok(Some(self.next_job(alloc, worker, mine)?))
+    }
+
+    /// Asks for the job of a number, where the board is of this problem. None where it is of another.
+    pub fn claim(
+        &mut self,
+        alloc: Global,
+        problem: &Problem,
+        worker: u32,
+        number: u64,
+        mine: &mut Share<L>,
+    ) -> Result<Option<Claimed>, NoMemory>
+        requires { 0 < mine.old.parts }
+        ensures claims { Claims self.old.board problem.now worker number result self.new.board }
+        ensures none { IfNoClaim result (HasNoWork self.new.board problem.now worker) }
+        ensures job { IfOk result (λ answer. IfSome answer (λ claimed. IfClaimed claimed (λ ticket. IsJob problem.now ticket.nodes))) }
+        ensures parts { mine.new.parts ≡ mine.old.parts }
+        ensures amount { mine.old.amount ≤ mine.new.amount }
+        ensures counted { mine.new.amount + length self.old.board.journal ≡ mine.old.amount + length self.new.board.journal }
+    {
+        if !self.is_of(problem) {
+            return Ok(None);
+        }
+        Ok(Some(self.claim_job(alloc, worker, number, mine)?))
+    }
+
+    // Whether the board is of this problem.
+    fn is_of(&self, problem: &Problem) -> bool
+        ensures { IsTrue result ↔ (self.now.board.opening.problem ≡ problem.now) }
+    {
+        self.board.opening().problem().same(problem)
     }
 
     // A worker's next job, whatever the board's problem.
@@ -74,6 +104,35 @@ impl<L: Ledger> Locked<L> {
             self.book.add(mine, 1);
         }
         Ok(taken)
+    }
+
+    // The job of a number, whatever the board's problem.
+    fn claim_job(
+        &mut self,
+        alloc: Global,
+        worker: u32,
+        number: u64,
+        mine: &mut Share<L>,
+    ) -> Result<Claimed, NoMemory>
+        requires { 0 < mine.old.parts }
+        ensures answer { IfOk result (λ claimed. claimed ≡ claim_answer self.old.board worker number) }
+        ensures board { OnOk result (self.new.board ≡ after_claim self.old.board worker number) }
+        ensures unchanged { IfOk result (λ claimed. UnlessClaimed claimed (self.new.board ≡ self.old.board)) }
+        ensures err { OnErr result (self.new.board ≡ self.old.board) }
+        ensures ended { IfOk result (λ claimed. IfEnded claimed (EndsWork (next_answer self.old.board worker))) }
+        ensures job { IfOk result (λ claimed. IfClaimed claimed (λ ticket. IsJob self.old.board.opening.problem ticket.nodes)) }
+        ensures parts { mine.new.parts ≡ mine.old.parts }
+        ensures amount { mine.old.amount ≤ mine.new.amount }
+        ensures counted { mine.new.amount + length self.old.board.journal ≡ mine.old.amount + length self.new.board.journal }
+    {
+        a_ticket_has_a_job();
+        journals_grow_by_their_entries();
+        let _ = self.board.journal();
+        let claimed = self.board.claim(alloc, worker, number)?;
+        if let Claimed::Job(_) = &claimed {
+            self.book.add(mine, 1);
+        }
+        Ok(claimed)
     }
 
     /// Hands in finished work on the job of a number that a worker holds.

@@ -1,2 +1,4 @@
-pub mod Playing
+pub mod Above
 pub mod Ending
+pub mod Playing
+pub mod Returning

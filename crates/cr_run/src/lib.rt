@@ -6,7 +6,8 @@
 //!
 //! - [`run_alone`]: runs an open board by its first worker. It waits for nobody.
 //! - [`run_workers`]: opens a board and runs it by as many threads as it has workers, then finishes alone what they
-//!   leave.
+//!   leave. Each worker keeps numbers of the jobs that it opened in a lane of its own and steals from the others', so that
+//!   it need not look for a job under the board's lock ([`LaneHints`]).
 //!
 //! Both fail only where no memory is left.
 //!
@@ -20,9 +21,13 @@
 #![tactic(auto)]
 
 mod alone;
+mod crew;
+mod hints;
 pub mod laws;
-mod seats;
+mod places;
 mod workers;
 
 pub use alone::run_alone;
-pub use workers::run_workers;
+pub use crew::hints_of;
+pub use hints::LaneHints;
+pub use workers::{run_workers, run_workers_with_room};

@@ -1,15 +1,16 @@
 //! Many workers on a board.
 
-ghost use Rattle.std.specs.Prelude.{◌≡◌, [], false, get_or, flat_map, vec_len, All, IfOk};
+ghost use Rattle.std.specs.Prelude.{◌≡◌, ◌≤◌, [], false, get_or, flat_map, IfOk};
 ghost use Rattle.cr_board.specs.Boards.{held_jobs};
 ghost use Rattle.cr_run.specs.Runs.{IsRun};
 
 use crate::alone::run_alone;
+use crate::crew::{all_worked, hinted, hints_of};
 use crate::laws::boards_at_rest;
-use crate::seats::{SeatWork, work_at_all};
 use cr_board::laws::events_only_append;
 use cr_board::{Board, Opening};
-use cr_desk::{Desk, Seat};
+use cr_desk::Desk;
+use cr_lanes::Lanes;
 use cr_node::Explorer;
 use cr_row::NoMemory;
 use std::alloc::Global;
@@ -17,6 +18,13 @@ use std::marker::Brand;
 use std::sync::Wait;
 use std::sync::ledger::{Blank, Ledger};
 use std::thread::Threads;
+
+// For how many numbers of jobs all lanes have room together: a whole board of 2^28 turns has as many grants of 4,096 turns,
+// and each opens at most two jobs. Those that find no room are not lost: the board tells its jobs too.
+const ROOM: u64 = 131_072;
+
+// The most for which one lane has room.
+const LANE_ROOM: u64 = 65_536;
 
 /// Opens a board and runs it to its end, by its workers side by side, in a thread each where one can be started, until no
 /// job is left or all turns of the budget are spent. What they leave, as where one of them found no memory, one worker
@@ -30,9 +38,32 @@ pub fn run_workers<R: Threads + Wait + Sync, E: Explorer + Sync>(
     requires { E.explores explorer.now ≡ opening.problem }
     ensures { IfOk result (IsRun opening) }
 {
+    let room = room_of_each(opening.workers());
+    run_workers_with_room(rt, alloc, opening, explorer, room)
+}
+
+// For how many numbers the lane of each of so many workers has room.
+fn room_of_each(workers: u32) -> u64
+    ensures { (1 ≤ result) × (result ≤ 65536) }
+{
+    (ROOM / u64::from(workers.max(1))).clamp(1, LANE_ROOM)
+}
+
+/// The same with this room in the lanes, in which the workers keep numbers of the jobs that they opened.
+pub fn run_workers_with_room<R: Threads + Wait + Sync, E: Explorer + Sync>(
+    rt: &R,
+    alloc: Global,
+    opening: Opening,
+    explorer: &E,
+    room: u64,
+) -> Result<Board, NoMemory>
+    requires problem { E.explores explorer.now ≡ opening.problem }
+    requires room { (1 ≤ room) × (room ≤ 65536) }
+    ensures { IfOk result (IsRun opening) }
+{
     let given = opening.copy(alloc)?;
     let board = Board::open(alloc, opening)?;
-    let board = together(rt, alloc, board, explorer)?;
+    let board = together(rt, alloc, board, explorer, room)?;
     let board = at_rest(alloc, board, given)?;
     run_alone(alloc, board, explorer)
 }
@@ -54,17 +85,19 @@ fn at_rest(alloc: Global, board: Board, opening: Opening) -> Result<Board, NoMem
     Ok(board)
 }
 
-// The board that is at a desk after all its workers have worked at it.
+// The board that is at a desk after all its workers have worked at it, by hints from lanes of this room.
 fn together<R: Threads + Wait + Sync, E: Explorer + Sync>(
     rt: &R,
     alloc: Global,
     board: Board,
     explorer: &E,
+    room: u64,
 ) -> Result<Board, NoMemory>
-    requires { board.journal ≡ [] }
+    requires empty { board.journal ≡ [] }
+    requires room { (1 ≤ room) × (room ≤ 65536) }
 {
     let blank = Blank::new(u64::from(board.opening().workers()));
-    at_desk::<Brand, R, E>(rt, alloc, board, blank, explorer)
+    at_desk::<Brand, R, E>(rt, alloc, board, blank, explorer, room)
 }
 
 // The same at a desk of one ledger.
@@ -75,50 +108,21 @@ fn at_desk<L: Ledger + Send + Sync, R: Threads + Wait + Sync, E: Explorer + Sync
     board: Board,
     blank: Blank,
     explorer: &E,
+    room: u64,
 ) -> Result<Board, NoMemory>
     requires empty { board.journal ≡ [] }
     requires name { blank.name ≡ L.name }
     requires parts { blank.parts ≡ L.parts }
     requires workers { blank.parts ≡ board.opening.workers }
+    requires room { (1 ≤ room) × (room ≤ 65536) }
 {
-    let (desk, mut seats) = Desk::<L>::open(alloc, board, blank)?;
-    work_all(rt, alloc, &desk, explorer, &mut seats);
+    let workers = board.opening().workers();
+    let (desk, seats) = Desk::<L>::open(alloc, board, blank)?;
+    let (lanes, ends, thieves) = Lanes::new(alloc, workers, room)?;
+    let hints = hints_of(alloc, &lanes, ends, thieves)?;
+    let places = hinted(alloc, seats, hints)?;
+    let (seats, ends, thieves) = all_worked(rt, alloc, &desk, explorer, places)?;
+    lanes.close(ends, thieves);
     let (board, _) = desk.close(seats);
     Ok(board)
-}
-
-// The worker of each seat works at the desk.
-fn work_all<L: Ledger + Send + Sync, R: Threads + Wait + Sync, E: Explorer + Sync>(
-    rt: &R,
-    alloc: Global,
-    desk: &Desk<L>,
-    explorer: &E,
-    seats: &mut Vec<Seat<L>>,
-)
-    requires one { All (λ s. s.share.parts ≡ 1) seats.old.items }
-    ensures one { All (λ s. s.share.parts ≡ 1) seats.new.items }
-    ensures len { vec_len seats.new ≡ vec_len seats.old }
-{
-    let place = Workplace {
-        rt,
-        alloc,
-        desk,
-        explorer,
-    };
-    work_at_all(rt, &place, seats.as_mut_slice());
-}
-
-// A desk, and what its workers explore with.
-#[derive(Drop)]
-struct Workplace<'a, L: Ledger, R, E> {
-    rt: &'a R,
-    alloc: Global,
-    desk: &'a Desk<L>,
-    explorer: &'a E,
-}
-
-impl<'a, L: Ledger, R: Wait, E: Explorer> SeatWork<L> for Workplace<'a, L, R, E> {
-    fn work_at(&self, seat: &mut Seat<L>) {
-        self.desk.work(self.rt, self.alloc, self.explorer, seat);
-    }
 }

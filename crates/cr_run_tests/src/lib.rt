@@ -6,4 +6,6 @@ mod alone_tests;
 #[cfg(test)]
 mod desk_tests;
 #[cfg(test)]
+mod hint_tests;
+#[cfg(test)]
 mod worker_tests;

@@ -9,7 +9,7 @@ use cr_hunter::{Hunter, make_hunter};
 use cr_model::Problem;
 use cr_node::{Done, Explorer, Node};
 use cr_row::NoMemory;
-use cr_run::run_workers;
+use cr_run::{run_workers, run_workers_with_room};
 use std::alloc::Global;
 use std::sync::atomic::AtomicU64;
 use std::sync::atomic::Ordering::SeqCst;
@@ -77,6 +77,21 @@ fn workers_come_to_the_same(rt: HostRuntime) -> Result<(), Fail> {
         for workers in [1, 2, 3, 8, 64] {
             let opening = opening(rt.alloc(), begun, budget, workers)?;
             let board = run_workers(&rt, rt.alloc(), opening, &hunter)?;
+            assert_eq!(rt; (board.spent(), board.found().len()), (spent, found));
+            assert_eq!(rt; (board.is_done(), all_found(&board)), (done, done));
+        }
+    }
+    Ok(())
+}
+
+// Lanes that have room for one number, or for two, lose no job.
+#[test]
+fn workers_with_little_room_come_to_the_same(rt: HostRuntime) -> Result<(), Fail> {
+    let hunter = make_hunter(rt.alloc())?;
+    for &(begun, budget, spent, found, done) in CASES {
+        for (workers, room) in [(1, 1), (2, 1), (64, 1), (64, 2)] {
+            let opening = opening(rt.alloc(), begun, budget, workers)?;
+            let board = run_workers_with_room(&rt, rt.alloc(), opening, &hunter, room)?;
             assert_eq!(rt; (board.spent(), board.found().len()), (spent, found));
             assert_eq!(rt; (board.is_done(), all_found(&board)), (done, done));
         }
