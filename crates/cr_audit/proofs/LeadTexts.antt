@@ -7,7 +7,8 @@ use Rattle.cr_model.specs.Books.{lead_text, calling_text}
 use Rattle.cr_model.specs.Sound.{IsSound}
 use Rattle.cr_model.proofs.StepsDiffer.{one_step, one_method, known_method}
 use Rattle.cr_audit.proofs.SameTexts.{same_from_text}
-use Rattle.cr_audit.proofs.Walking.{width, wide, some_width}
+use Rattle.cr_audit.specs.Nodes.{width}
+use Rattle.cr_audit.proofs.Walking.{wide, some_width}
 
 module _ (p : ProblemParts) where
   -- of several methods a letter and a mark, of one the mark

@@ -7,3 +7,16 @@ pub mod Proving
 pub mod SameTexts
 pub mod RawLines
 pub mod Walking
+pub mod Dues
+pub mod Halves
+pub mod KeptCallings
+pub mod LastRows
+pub mod Words
+pub mod Paths
+pub mod ByRows
+pub mod Fitting
+pub mod Stopping
+pub mod Powers
+pub mod Short
+pub mod Adding
+pub mod Passing

@@ -6,12 +6,9 @@ use Rattle.cr_model.specs.Problems.{ProblemParts}
 use Rattle.cr_model.specs.Callings.{HasSteps, mark_of, letter_of}
 use Rattle.cr_model.specs.Books.{lead_text, calling_text}
 use Rattle.cr_model.specs.Checkpoints.{steps_text}
-use Rattle.cr_audit.specs.Nodes.{IsCallingText, IsNodeText, BeginsWithLead}
+use Rattle.cr_audit.specs.Nodes.{width, IsCallingText, IsNodeText, BeginsWithLead}
 
 -- each lead's text is as wide
-abbrev pub width : ProblemParts → ℕ
-width p = cond (nat_lt 1 (length p.letters)) 2 1
-
 as_wide : (b : Bool) (x y : ℕ) → length (cond b (x ∷ y ∷ []) (y ∷ [])) ≡ cond b 2 1
 as_wide true x y = refl
 as_wide false x y = refl

@@ -5,3 +5,10 @@ pub mod Reads
 pub mod Nodes
 pub mod Audits
 pub mod Examples
+pub mod Dues
+pub mod Keeping
+pub mod Meeting
+pub mod Paths
+pub mod Judged
+pub mod Stops
+pub mod Touched

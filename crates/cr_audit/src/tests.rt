@@ -4,7 +4,7 @@ ghost use Rattle.std.specs.Prelude.{All, IfOk};
 ghost use Rattle.cr_model.specs.Callings.{HasSteps};
 
 use super::*;
-use cr_model::{Lead, Problem, Query, Step};
+use cr_model::{Count, Lead, Problem, Query, Step};
 use cr_row::{Change, Stage};
 use std::alloc::Global;
 use std::test::*;
@@ -43,6 +43,10 @@ fn changes_of(alloc: Global, stage: Stage, last: &[u8]) -> Result<Vec<Change>, F
 }
 
 fn problem(alloc: Global, draft: &Draft) -> Result<Problem, Fail> {
+    problem_asking(alloc, draft, any_touch(alloc))
+}
+
+fn problem_asking(alloc: Global, draft: &Draft, query: Query) -> Result<Problem, Fail> {
     let stage = Stage::new(4).ok_or("the stage is from 3 to 16")?;
     let letters = draft.letters.to_vec(alloc)?;
     let mut leads = Vec::new(alloc);
@@ -53,7 +57,7 @@ fn problem(alloc: Global, draft: &Draft) -> Result<Problem, Fail> {
             changes,
         })?;
     }
-    match Problem::new(stage, letters, leads, any_touch(alloc)) {
+    match Problem::new(stage, letters, leads, query) {
         Ok(problem) => Ok(problem),
         Err(_) => Err(Fail::from("the parts are refused")),
     }
@@ -143,4 +147,180 @@ fn is_written(
         Ok(written) => Ok(written.as_slice() == text.as_bytes()),
         Err(_) => Err(Fail::from("there is memory")),
     }
+}
+
+// Plain Bob Minimus in so many parts, with at least so many plain leads where that is not none; a book, a log, and what
+// an audit answers.
+#[derive(Clone, Copy)]
+struct Case {
+    parts: i64,
+    plain: i64,
+    book: &'static str,
+    log: &'static str,
+    wanted: Result<u64, AuditFault>,
+}
+
+const WHOLE: Case = Case {
+    parts: 1,
+    plain: 0,
+    book: "24 ppp\ntouches 1\n",
+    log: "- open\np open\npp open\nppp open\npppp long\n",
+    wanted: Ok(1),
+};
+
+const CASES: &[Case] = &[
+    WHOLE,
+    // Other verdicts that hold.
+    Case {
+        log: "- open\np open\npp open\nppp open\npppp again 0 24\n",
+        ..WHOLE
+    },
+    Case {
+        log: "- open\np open\npp open\nppp open\npppp home 23\n",
+        ..WHOLE
+    },
+    Case {
+        parts: 3,
+        log: "- open\np open\npp long\n",
+        ..WHOLE
+    },
+    Case {
+        parts: 2,
+        book: "touches 0\n",
+        log: "- open\np open\npp long\n",
+        wanted: Ok(0),
+        ..WHOLE
+    },
+    Case {
+        plain: 4,
+        book: "touches 0\n",
+        log: "- few count 0\n",
+        wanted: Ok(0),
+        ..WHOLE
+    },
+    // Lines without the form of one.
+    Case {
+        log: "- open\np open\npp open\nppp open\npppp long",
+        wanted: Err(AuditFault::Line(5)),
+        ..WHOLE
+    },
+    Case {
+        log: "- open\nq open\n",
+        wanted: Err(AuditFault::Line(2)),
+        ..WHOLE
+    },
+    Case {
+        log: "- open\np  open\n",
+        wanted: Err(AuditFault::Line(2)),
+        ..WHOLE
+    },
+    Case {
+        log: "- open\np again 0 08\n",
+        wanted: Err(AuditFault::Line(2)),
+        ..WHOLE
+    },
+    Case {
+        log: "- open\np home 9223372036854775808\n",
+        wanted: Err(AuditFault::Line(2)),
+        ..WHOLE
+    },
+    // Lines of other nodes, and none of the one that is due.
+    Case {
+        log: "",
+        wanted: Err(AuditFault::Node(1)),
+        ..WHOLE
+    },
+    Case {
+        log: "- open\np open\npp open\nppp open\n",
+        wanted: Err(AuditFault::Node(5)),
+        ..WHOLE
+    },
+    Case {
+        log: "- open\npp open\n",
+        wanted: Err(AuditFault::Node(2)),
+        ..WHOLE
+    },
+    Case {
+        log: "- open\np open\npp open\nppp open\npppp long\np long\n",
+        wanted: Err(AuditFault::Node(6)),
+        ..WHOLE
+    },
+    // Verdicts that do not hold.
+    Case {
+        log: "- open\np open\npp open\nppp open\npppp back 1\n",
+        wanted: Err(AuditFault::Verdict(5)),
+        ..WHOLE
+    },
+    Case {
+        log: "- open\np open\npp open\nppp home 23\n",
+        wanted: Err(AuditFault::Verdict(4)),
+        ..WHOLE
+    },
+    Case {
+        log: "- open\np again 3 3\n",
+        wanted: Err(AuditFault::Verdict(2)),
+        ..WHOLE
+    },
+    Case {
+        log: "- open\np home 9223372036854775807\n",
+        wanted: Err(AuditFault::Verdict(2)),
+        ..WHOLE
+    },
+    Case {
+        log: "- many com\n",
+        wanted: Err(AuditFault::Verdict(1)),
+        ..WHOLE
+    },
+    Case {
+        plain: 3,
+        log: "- few count 0\n",
+        wanted: Err(AuditFault::Verdict(1)),
+        ..WHOLE
+    },
+    // Other books.
+    Case {
+        book: "touches 0\n",
+        wanted: Err(AuditFault::Book(0)),
+        ..WHOLE
+    },
+    Case {
+        book: "24 ppp\ntouches 1",
+        wanted: Err(AuditFault::Book(16)),
+        ..WHOLE
+    },
+    Case {
+        book: "24 ppp\n24 ppp\ntouches 2\n",
+        wanted: Err(AuditFault::Book(7)),
+        ..WHOLE
+    },
+];
+
+#[test]
+fn audits_answer_yes_or_the_first_fault(rt: HostRuntime) -> Result<(), Fail> {
+    let alloc = rt.alloc();
+    for case in CASES {
+        if !is_answered(alloc, case)? {
+            return Err(Fail::from(case.log));
+        }
+    }
+    Ok(())
+}
+
+fn is_answered(alloc: Global, case: &Case) -> Result<bool, Fail> {
+    let problem = problem_asking(alloc, &MINIMUS, query_of(alloc, case)?)?;
+    let answer = audit(alloc, &problem, case.book.as_bytes(), case.log.as_bytes());
+    Ok(answer == case.wanted)
+}
+
+fn query_of(alloc: Global, case: &Case) -> Result<Query, Fail> {
+    let mut query = any_touch(alloc);
+    query.parts = case.parts;
+    if case.plain > 0 {
+        query.counts.push(Count {
+            mark: b'p',
+            min: case.plain,
+            max: 24,
+        })?;
+    }
+    Ok(query)
 }

@@ -51,7 +51,7 @@ fn write_node(text: &mut Vec<u8>, problem: &Problem, node: &[u8]) -> Result<(), 
     write_leads(text, problem, node)
 }
 
-fn write_leads(text: &mut Vec<u8>, problem: &Problem, steps: &[u8]) -> Result<(), NoMemory>
+pub fn write_leads(text: &mut Vec<u8>, problem: &Problem, steps: &[u8]) -> Result<(), NoMemory>
     requires { HasSteps problem.now steps.now }
     ensures { IfOk result (λ _. text.new.items ≡ text.old.items ++ calling_text problem.now steps.now) }
 {
@@ -61,8 +61,8 @@ fn write_leads(text: &mut Vec<u8>, problem: &Problem, steps: &[u8]) -> Result<()
     Ok(())
 }
 
-// The letter of its method, if there are several methods, and its mark.
-fn write_lead(text: &mut Vec<u8>, problem: &Problem, step: u8) -> Result<(), NoMemory>
+/// The letter of its method, if there are several methods, and its mark.
+pub fn write_lead(text: &mut Vec<u8>, problem: &Problem, step: u8) -> Result<(), NoMemory>
     requires { step < length problem.now.leads }
     ensures { IfOk result (λ _. text.new.items ≡ text.old.items ++ lead_text problem.now step) }
 {
@@ -127,8 +127,8 @@ fn write_word(text: &mut Vec<u8>, word: &[u8]) -> Result<(), NoMemory>
     Ok(())
 }
 
-// A word and a number behind it.
-fn write_numbered(text: &mut Vec<u8>, word: &[u8], number: u64) -> Result<(), NoMemory>
+/// Appends a word and a number behind it.
+pub fn write_numbered(text: &mut Vec<u8>, word: &[u8], number: u64) -> Result<(), NoMemory>
     ensures { IfOk result (λ _. text.new.items ≡ text.old.items ++ (word.now ++ decimal number)) }
 {
     text.extend_from_slice(word)?;

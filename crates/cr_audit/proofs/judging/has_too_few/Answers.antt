@@ -1,0 +1,10 @@
+use Rattle.std.proofs.Common.{ap, sym, ◌∙◌}
+use Rattle.cr_audit.specs.Verdicts.{has_too_few}
+use Rattle.cr_audit.proofs.ByRows.{few_is}
+use Rattle.cr_audit.proofs.judging.has_too_few.Goals as goal
+
+pub returns-in-Rows : goal.returns-in-Rows
+returns-in-Rows c =
+    let p = c.args.problem.now in
+    let node = c.args.node.now in
+    c.few_rows.ensures ∙ few_is p node c.args.rows.now c.in-Rows.index c.requires.rows ∙ ap (has_too_few p node) (sym c.in-Rows.is)
