@@ -1,0 +1,11 @@
+pub mod FirstOnes
+pub mod OneFirst
+pub mod Adding
+pub mod Once
+pub mod RungLeads
+pub mod Places
+pub mod FirstItems
+pub mod Small
+pub mod Touches
+pub mod Going
+pub mod Powers

@@ -1,0 +1,3 @@
+pub mod FirstVerdicts
+pub mod Logging
+pub mod Examples
