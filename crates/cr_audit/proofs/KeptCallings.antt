@@ -1,17 +1,14 @@
 -- Which callings are kept.
-use Rattle.std.proofs.Common.{◌≡◌, ℕ, zero, suc, ◌<◌, ◌↔◌, true, nat_abs, List, ◌++◌, length, take, drop, inl, inr, refl, sym, ap, ◌∙◌, subst, arith, append-nil, take-append-drop}
+use Rattle.std.proofs.Common.{◌≡◌, ℕ, ◌<◌, ◌↔◌, List, ◌++◌, length, take, drop, inl, inr, refl, sym, ap, ◌∙◌, subst, arith, append-nil, take-append-drop}
 use Rattle.std.proofs.lemmas.Bool.{cases_eq}
 use Rattle.std.proofs.lemmas.Cmp.{nat_list_cmp_total}
 use Rattle.std.proofs.lemmas.List.{take_all, drop_all}
 use Rattle.std.proofs.lemmas.List.Elements.{All-append, All-take, All-drop}
 use Rattle.cr_model.specs.Problems.{ProblemParts}
 use Rattle.cr_model.specs.Callings.{HasSteps, length_of, TrueTouch}
-use Rattle.cr_model.specs.Dead.{turn_free}
 use Rattle.cr_model.specs.Decided.{rotated}
-use Rattle.cr_model.specs.Nodes.{part_of}
-use Rattle.cr_model.specs.Queries.{Meets, repeated}
+use Rattle.cr_model.specs.Queries.{Meets}
 use Rattle.cr_model.specs.Touches.{Wanted, IsRotation, IsLess, Kept}
-use Rattle.cr_model.specs.LeastRotations.{IsLeastRotation}
 use Rattle.cr_model.proofs.InOrder.{never_itself}
 use Rattle.cr_model.proofs.LeastRotation.{rotated_is}
 use Rattle.cr_audit.specs.Keeping.{HasNoneBetter}

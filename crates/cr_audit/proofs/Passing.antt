@@ -1,5 +1,5 @@
 -- An audit from line to line.
-use Rattle.std.proofs.Common.{◌≡◌, ◌≢◌, ◌⊎◌, ◌↔◌, ℕ, ◌+◌, ◌<◌, ◌≤◌, Bool, true, false, cond, List, [], ◌∷◌, ◌++◌, length, get_or, All, Contains, codes, inl, inr, refl, sym, ap, ◌∙◌, subst, arith, length-append}
+use Rattle.std.proofs.Common.{◌≡◌, ◌≢◌, ◌⊎◌, ◌↔◌, ℕ, ◌+◌, ◌<◌, ◌≤◌, Bool, true, false, cond, List, [], ◌∷◌, ◌++◌, length, Contains, codes, refl, sym, ap, ◌∙◌, subst, arith, length-append}
 use Rattle.std.specs.Prelude.{Result, Ok, Err, MatchResult, IfOk, IfErr}
 use Rattle.std.specs.BTreeSet.{BTreeSet}
 use Rattle.std.proofs.lemmas.List.Elements.{All-nil}
@@ -11,12 +11,11 @@ use Rattle.cr_audit.specs.declared.fault.AuditFault.TheVariants as fault
 use Rattle.cr_audit.specs.declared.touches.Touch.{Touch}
 use Rattle.cr_audit.specs.declared.verdict.Verdict.{Verdict}
 use Rattle.cr_audit.specs.declared.walk.Walk.{Walk}
-use Rattle.cr_audit.specs.Audits.{IsRightTo, IsAuditFault}
 use Rattle.cr_audit.specs.Dues.{dues, later, is_open}
 use Rattle.cr_audit.specs.Examples.{line_of}
-use Rattle.cr_audit.specs.Logs.{LineParts, verdict_text, line_text, opened_by, IsLine, IsTrueLine, IsOpened}
+use Rattle.cr_audit.specs.Logs.{verdict_text, line_text, opened_by, IsLine, IsTrueLine}
 use Rattle.cr_audit.specs.Stops.{IsStop, IsRightLine, HasPassed, IsFound, IsLogFault}
-use Rattle.cr_audit.specs.Touched.{AreTouches, callings, IsProved, IsWalk, HasMoved}
+use Rattle.cr_audit.specs.Touched.{callings, IsProved, IsWalk, HasMoved}
 use Rattle.cr_audit.proofs.Dues.{opened_is}
 use Rattle.cr_audit.proofs.Proving.{none_held}
 use Rattle.cr_audit.proofs.Stopping.{stopped, ended, passed_on}

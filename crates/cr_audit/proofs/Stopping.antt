@@ -1,5 +1,5 @@
 -- Where reading a log stops, and how it goes on.
-use Rattle.std.proofs.Common.{◌≡◌, ◌≢◌, ◌⊎◌, ◌↔◌, ℕ, ◌+◌, Bool, true, false, List, [], ◌∷◌, ◌++◌, length, flat_map, All, Contains, inl, inr, refl, sym, ap, ◌∙◌, subst, arith, append-nil, append_assoc, length-append}
+use Rattle.std.proofs.Common.{◌≡◌, ◌≢◌, ◌⊎◌, ◌↔◌, ℕ, ◌+◌, Bool, true, false, List, [], ◌∷◌, ◌++◌, Contains, inl, inr, refl, sym, ap, ◌∙◌, subst, arith, append-nil, append_assoc, length-append}
 use Rattle.std.proofs.lemmas.List.Elements.{All-push, Contains-append_left, Contains-push, Contains-push_cases}
 use Rattle.std.proofs.lemmas.List.Concat.{flat_map-append}
 use Rattle.cr_model.specs.Problems.{ProblemParts}
@@ -13,9 +13,9 @@ use Rattle.cr_audit.specs.declared.fault.AuditFault.TheVariants as fault
 use Rattle.cr_audit.specs.declared.verdict.Verdict.{Verdict}
 use Rattle.cr_audit.specs.declared.verdict.Verdict.TheVariants as verdict
 use Rattle.std.proofs.lemmas.Bool.{false≢true}
-use Rattle.cr_audit.specs.Dues.{dues, later, is_open}
+use Rattle.cr_audit.specs.Dues.{dues, is_open}
 use Rattle.cr_audit.specs.Examples.{line_of}
-use Rattle.cr_audit.specs.Logs.{LineParts, line_text, log_text, IsSmall, IsLine, opened_by, AreDue, IsTrueLine, IsOpened, Proves}
+use Rattle.cr_audit.specs.Logs.{LineParts, line_text, log_text, IsLine, opened_by, AreDue, IsTrueLine, IsOpened, Proves}
 use Rattle.cr_audit.specs.Nodes.{IsNodeText}
 use Rattle.cr_audit.specs.Reads.{raw_text, IsRaw}
 use Rattle.std.specs.Prelude.{Result, Ok, Err}
@@ -23,8 +23,8 @@ use Rattle.std.specs.List.Sorted.{IsStrictlySortedBy}
 use Rattle.cr_model.specs.Books.{book_order}
 use Rattle.cr_audit.specs.Touched.{IsBookAnswer}
 use Rattle.cr_audit.specs.Audits.{IsRightTo, Begins, IsForFirst, IsAuditFault, Audits}
-use Rattle.cr_audit.specs.Stops.{IsNoLine, IsOtherNode, IsUntrue, IsStop, IsRightLine, HasPassed, IsFound}
-use Rattle.cr_audit.proofs.OneLine.{line_raw, line_is, one_node, steps_lack}
+use Rattle.cr_audit.specs.Stops.{IsNoLine, IsOtherNode, IsStop, IsRightLine, HasPassed, IsFound}
+use Rattle.cr_audit.proofs.OneLine.{line_raw, line_is, steps_lack}
 use Rattle.cr_audit.proofs.RawLines.{raw_lacks}
 use Rattle.cr_model.proofs.Bytes.{cut}
 

@@ -1,5 +1,5 @@
 -- A node with its text and its rows.
-use Rattle.std.specs.Prelude.{◌≡◌, ℕ, List}
+use Rattle.std.specs.Prelude.{◌≡◌}
 use Rattle.cr_model.specs.Problems.{ProblemParts}
 use Rattle.cr_model.specs.Callings.{HasSteps, rows_of}
 use Rattle.cr_model.specs.Books.{calling_text}

@@ -1,5 +1,5 @@
 -- Where an audit of a log stops.
-use Rattle.std.specs.Prelude.{◌≡◌, ◌≢◌, ℕ, List, [], ◌∷◌, ◌++◌, Contains, ◌⊎◌, ◌↔◌, true}
+use Rattle.std.specs.Prelude.{◌≡◌, ℕ, List, Contains, ◌↔◌}
 use Rattle.cr_model.specs.Problems.{ProblemParts}
 use Rattle.cr_model.specs.Touches.{Kept}
 use Rattle.cr_model.specs.OneTurn.{touch_of}

@@ -1,16 +1,15 @@
 -- A line more, and the nodes that are due then.
-use Rattle.std.proofs.Common.{◌≡◌, ℕ, suc, ◌+◌, ◌-◌, ◌<◌, ◌≤◌, Bool, true, false, cond, List, [], ◌∷◌, ◌++◌, length, map, All, refl, sym, ap, ◌∙◌, subst, arith, append-nil, append_assoc}
+use Rattle.std.proofs.Common.{◌≡◌, ℕ, suc, ◌+◌, ◌-◌, ◌<◌, Bool, true, false, cond, List, [], ◌∷◌, ◌++◌, length, map, refl, sym, ap, ◌∙◌, subst, arith, append-nil}
 use Rattle.std.specs.Prelude.{flat_map}
 use Rattle.std.specs.List.{range_with_len}
 use Rattle.std.proofs.lemmas.List.Elements.{All-nil, All-push}
 use Rattle.std.proofs.lemmas.List.Concat.{flat_map-append}
 use Rattle.cr_model.specs.Problems.{ProblemParts}
-use Rattle.cr_model.specs.Callings.{HasSteps}
 use Rattle.cr_model.specs.Sizes.{child, children}
 use Rattle.cr_model.specs.OneTurn.{touch_found}
 use Rattle.cr_audit.specs.declared.verdict.Verdict.{Verdict}
 use Rattle.cr_audit.specs.declared.verdict.Verdict.TheVariants as verdict
-use Rattle.cr_audit.specs.Logs.{LineParts, IsSmall, IsLine, opened_by, AreDue}
+use Rattle.cr_audit.specs.Logs.{LineParts, IsLine, opened_by, AreDue}
 use Rattle.cr_log.specs.FirstVerdicts.{IsFirstVerdict, IsFirstLine}
 use Rattle.cr_log.specs.Logging.{opens, found_by, children_from, IsLogged}
 

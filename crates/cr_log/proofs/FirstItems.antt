@@ -1,5 +1,5 @@
 -- The first item, from the first of each kind.
-use Rattle.std.proofs.Common.{◌≡◌, ℕ, ◌+◌, ◌-◌, ◌*◌, ◌<◌, Bool, true, false, cond, ◌&&◌, nat_lt, List, [], length, get_or, refl, sym, ap, ◌∙◌, subst, arith, inl, inr}
+use Rattle.std.proofs.Common.{◌≡◌, ℕ, ◌+◌, ◌-◌, ◌*◌, ◌<◌, Bool, true, false, cond, ◌&&◌, nat_lt, List, [], length, get_or, refl, sym, ◌∙◌, subst, inl, inr}
 use Rattle.std.proofs.lemmas.List.{get_or_default}
 use Rattle.cr_model.specs.Problems.{PatternParts, ProblemParts}
 use Rattle.cr_model.specs.Callings.{rows_of, length_of}
@@ -7,7 +7,7 @@ use Rattle.cr_model.specs.Queries.{cap, leads_marked, rows_fitting}
 use Rattle.cr_model.specs.Dead.{parts_of, leads_left}
 use Rattle.cr_model.specs.Right.{count_at, pattern_at}
 use Rattle.std.specs.Prelude.{Some, None, pos, int_lt}
-use Rattle.std.proofs.lemmas.Bool.{false≢true, and_left, ltb-true, cases_lt, lt-ltb, le-ltb}
+use Rattle.std.proofs.lemmas.Bool.{false≢true, ltb-true, cases_lt, lt-ltb, le-ltb}
 use Rattle.cr_audit.specs.declared.verdict.Item.{Item}
 use Rattle.cr_audit.specs.declared.verdict.Item.TheVariants as item
 use Rattle.cr_log.specs.FirstVerdicts.{comes_first, IsLeast, IsFirstItem, is_missed}
@@ -82,7 +82,7 @@ least_none test n below beyond j = elim (cases_lt j n) [
 module _ (p : ProblemParts) (node : List ℕ) (few : Bool) where
   pub count_kept : (i : ℕ) (answer : Bool) → i < length p.query.counts
       → answer ≡ cond few (int_lt (pos (parts_of p * (leads_marked p (count_at p.query.counts i).mark node + leads_left p node))) (count_at p.query.counts i).min)
-          (int_lt (count_at p.query.counts i).max (pos (parts_of p * leads_marked p (count_at p.query.counts i).mark node)))
+      (int_lt (count_at p.query.counts i).max (pos (parts_of p * leads_marked p (count_at p.query.counts i).mark node)))
       → answer ≡ false → is_missed p node few (item.Count i) ≡ false
   count_kept i answer inside told fails = missed_at few (nat_lt i (length p.query.counts)) _ _ answer (lt-ltb i (length p.query.counts) inside) told ∙ fails
 

@@ -1,17 +1,14 @@
 -- The first verdict that holds of a node, put together from what holds of it and what does not.
-use Rattle.std.proofs.Common.{◌≡◌, ◌≢◌, ℕ, ◌+◌, ◌<◌, ◌≤◌, Bool, true, false, ◌&&◌, ◌||◌, List, get_or, nat_lt, nat_eq, inl, inr, refl, sym, ap, ◌∙◌, subst, arith, [], ◌∷◌}
-use Rattle.std.proofs.lemmas.Bool.{true≢false, false≢true, and_from, and_parts, and_right, ltb-true, lt-ltb, le-ltb, cases_lt, cases_eq, eq-eqb, or_parts, false_from_ne_true}
-use Rattle.std.proofs.lemmas.Slice.Eq.{bytes_eq-Decides}
-use Rattle.std.specs.Cmp.Lexicographic.{pointwise}
+use Rattle.std.proofs.Common.{◌≡◌, ℕ, Bool, true, false, List, nat_lt, refl, sym, ◌∙◌}
+use Rattle.std.proofs.lemmas.Bool.{true≢false, false≢true, and_from, and_right}
 use Rattle.cr_model.specs.Problems.{ProblemParts}
-use Rattle.cr_model.specs.Callings.{rows_of, length_of}
 use Rattle.cr_model.specs.Dead.{is_long}
 use Rattle.cr_audit.specs.declared.verdict.Item.{Item}
 use Rattle.cr_audit.specs.declared.verdict.Item.TheVariants as item
 use Rattle.cr_audit.specs.declared.verdict.Verdict.{Verdict}
 use Rattle.cr_audit.specs.declared.verdict.Verdict.TheVariants as verdict
-use Rattle.cr_audit.specs.Verdicts.{is_valid, row_at, is_again_at, is_round_at, has_too_many, has_too_few, turns_back_at, holds_verdict, HoldsVerdict}
-use Rattle.cr_log.specs.FirstVerdicts.{rank_of, index_of, comes_first, comes_before, IsFirstVerdict}
+use Rattle.cr_audit.specs.Verdicts.{is_valid, is_again_at, is_round_at, has_too_many, has_too_few, turns_back_at, holds_verdict}
+use Rattle.cr_log.specs.FirstVerdicts.{comes_first, comes_before, IsFirstVerdict}
 
 -- items of one side stand in the order of items
 many_in_order : (other of : Item) → comes_before (verdict.Many other) (verdict.Many of) ≡ comes_first other of

@@ -1,10 +1,10 @@
 -- Each touch that lines have is found once.
-use Rattle.std.proofs.Common.{◌≡◌, ◌↔◌, ℕ, ◌+◌, ◌<◌, ◌≤◌, Bool, true, false, cond, ◌&&◌, List, [], ◌∷◌, ◌++◌, length, filter, count_by, All, Contains, Option, Some, None, is_none, ◌⊎◌, bytes_eq, nat_le, inl, inr, refl, sym, ap, ◌∙◌, subst, arith}
+use Rattle.std.proofs.Common.{◌≡◌, ◌↔◌, ℕ, ◌+◌, ◌<◌, ◌≤◌, Bool, true, false, cond, List, [], ◌∷◌, ◌++◌, filter, count_by, All, Contains, Option, Some, None, is_none, ◌⊎◌, bytes_eq, nat_le, inl, inr, refl, sym, ap, ◌∙◌, subst, arith}
 use Rattle.std.specs.Prelude.{flat_map}
 use Rattle.std.specs.List.Sorted.{IsPermutation, IsSorted, IsStrictlySortedBy}
-use Rattle.std.proofs.lemmas.Bool.{true≢false, false≢true, false_from_ne_true, and_parts, leb-true, cases_Bool, cases_lt}
+use Rattle.std.proofs.lemmas.Bool.{true≢false, false_from_ne_true, and_parts, leb-true, cases_Bool, cases_lt}
 use Rattle.std.proofs.lemmas.List.Elements.{All-head, All-tail}
-use Rattle.std.proofs.lemmas.List.Elements.{Contains-append_right, Contains-append_cases}
+use Rattle.std.proofs.lemmas.List.Elements.{Contains-append_cases}
 use Rattle.std.proofs.lemmas.List.Sorted.{Contains-permutation, IsPermutation-sym}
 use Rattle.std.proofs.lemmas.List.Sums.{sum_by-append}
 use Rattle.std.proofs.lemmas.Slice.Eq.{bytes_eq-Decides}
@@ -16,19 +16,18 @@ use Rattle.cr_model.specs.Decided.{is_kept, has_steps}
 use Rattle.cr_model.specs.Touches.{Kept}
 use Rattle.cr_model.specs.Books.{book_order}
 use Rattle.cr_model.specs.Nodes.{is_above, IsValid, nodes_above, times_found, Splits}
-use Rattle.cr_model.specs.Sound.{IsSound}
 use Rattle.cr_model.specs.Dead.{HasNoneBelow, dead}
-use Rattle.cr_model.specs.Sizes.{child, children, live_children}
+use Rattle.cr_model.specs.Sizes.{children, live_children}
 use Rattle.cr_model.specs.OneTurn.{touch_of, touch_found}
-use Rattle.cr_model.proofs.Counting.{count_more, count_yes, count_no, count_none, passing}
+use Rattle.cr_model.proofs.Counting.{count_more, count_yes, count_no, passing}
 use Rattle.cr_model.proofs.Deciding.{has_steps_decided}
 use Rattle.cr_model.proofs.InOrder.{none_held, contains_cases, contains_more}
 use Rattle.cr_model.proofs.Listed.{held_joined, all_from_held}
 use Rattle.cr_audit.specs.declared.verdict.Verdict.{Verdict}
 use Rattle.cr_audit.specs.declared.verdict.Verdict.TheVariants as verdict
 use Rattle.cr_audit.specs.Verdicts.{is_valid, HoldsVerdict}
-use Rattle.cr_audit.specs.Logs.{LineParts, opened_by, AreDue, log_text, IsTrueLine, IsOpened, Proves}
-use Rattle.cr_log.specs.FirstVerdicts.{IsFirstVerdict, IsFirstLine}
+use Rattle.cr_audit.specs.Logs.{LineParts, opened_by, AreDue, log_text, IsOpened, Proves}
+use Rattle.cr_log.specs.FirstVerdicts.{IsFirstLine}
 use Rattle.cr_log.specs.Logging.{opens, found_by, IsLogged}
 use Rattle.cr_log.proofs.Adding.{line_of}
 

@@ -1,6 +1,6 @@
 -- One verdict is the first that holds of a node.
-use Rattle.std.proofs.Common.{◌≡◌, ◌≢◌, ℕ, ◌+◌, ◌<◌, ◌≤◌, Bool, true, false, ◌&&◌, ◌||◌, List, [], ◌∷◌, ◌++◌, length, All, get_or, nat_lt, nat_eq, inl, inr, refl, sym, ap, ap₂, ◌∙◌, subst, arith}
-use Rattle.std.proofs.lemmas.Bool.{true≢false, false≢true, and_from, and_parts, ltb-true, lt-ltb, ltb-false, cases_order, eq-eqb, or_parts, false_from_ne_true}
+use Rattle.std.proofs.Common.{◌≡◌, ◌≢◌, ℕ, ◌<◌, true, false, ◌&&◌, List, [], ◌∷◌, ◌++◌, length, All, get_or, nat_lt, nat_eq, inl, inr, refl, sym, ap, ap₂, ◌∙◌, subst, arith}
+use Rattle.std.proofs.lemmas.Bool.{true≢false, and_from, and_parts, ltb-true, lt-ltb, ltb-false, cases_order, eq-eqb, or_parts, false_from_ne_true}
 use Rattle.std.proofs.lemmas.Slice.Eq.{bytes_eq-Decides}
 use Rattle.std.specs.Cmp.Lexicographic.{pointwise}
 use Rattle.cr_model.specs.Problems.{ProblemParts}
@@ -8,7 +8,7 @@ use Rattle.cr_model.specs.Callings.{length_of}
 use Rattle.cr_audit.specs.declared.verdict.Item.TheVariants as item
 use Rattle.cr_audit.specs.declared.verdict.Verdict.{Verdict}
 use Rattle.cr_audit.specs.declared.verdict.Verdict.TheVariants as verdict
-use Rattle.cr_audit.specs.Verdicts.{row_at, is_again_at, holds_verdict, HoldsVerdict}
+use Rattle.cr_audit.specs.Verdicts.{row_at, is_again_at, HoldsVerdict}
 use Rattle.cr_audit.specs.Logs.{LineParts, opened_by, AreDue}
 use Rattle.std.proofs.lemmas.List.Elements.{All-head, All-tail}
 use Rattle.cr_log.specs.FirstVerdicts.{rank_of, index_of, is_less, comes_before, IsFirstVerdict, IsFirstLine}
@@ -113,7 +113,7 @@ module _ (p : ProblemParts) (node : List ℕ) where
         | inl e ↦ equal_rows (first_row why) (first_row other) (index_of why) (index_of other)
             (subst (IsFirstVerdict p node) (is_again why e) one) (subst (IsFirstVerdict p node) (is_again other (sym ranks ∙ e)) two) indexes
         | inr differ ↦
-            let no_again : rank_of why ≢ 1 = λ e. elim differ [ | inl less ↦ absurd (omega arith) | inr less ↦ absurd (omega arith) ] in
+            let no_again : rank_of why ≢ 1 = λ e. elim differ [ inl less ↦ absurd (omega arith) | inr less ↦ absurd (omega arith) ] in
             else_none why no_again ∙ sym (else_none other (λ e. no_again (ranks ∙ e)))
       ]
 

@@ -1,8 +1,8 @@
 -- What is known of a node whose rows stand on a stack.
-use Rattle.std.proofs.Common.{◌≡◌, ◌≢◌, ◌⊎◌, ℕ, ◌+◌, ◌<◌, ◌≤◌, Bool, true, false, ◌&&◌, ◌||◌, nat_lt, nat_le, List, [], ◌∷◌, length, get_or, map, All, Contains, inl, inr, refl, ap, sym, ◌∙◌, subst, arith}
-use Rattle.std.specs.Prelude.{nat_eq, Some, None}
+use Rattle.std.proofs.Common.{◌≡◌, ℕ, ◌+◌, ◌<◌, ◌≤◌, true, false, ◌&&◌, ◌||◌, nat_lt, nat_le, List, [], ◌∷◌, length, get_or, All, Contains, inl, inr, ap, sym, ◌∙◌, subst, arith}
+use Rattle.std.specs.Prelude.{nat_eq, Some}
 use Rattle.std.specs.Cmp.Lexicographic.{pointwise}
-use Rattle.std.proofs.lemmas.Bool.{true≢false, false≢true, and_from, and_parts, and_left, ltb-true, lt-ltb, cases_order, false_from_ne_true, le-ltb, le-leb}
+use Rattle.std.proofs.lemmas.Bool.{true≢false, and_from, and_parts, ltb-true, lt-ltb, cases_order, false_from_ne_true, le-ltb, le-leb}
 use Rattle.std.proofs.lemmas.List.{get_or_default}
 use Rattle.std.proofs.lemmas.List.Elements.{All-nil, All-cons, All-weaker}
 use Rattle.std.proofs.lemmas.Slice.Eq.{bytes_eq-Decides}
@@ -10,7 +10,7 @@ use Rattle.cr_row.specs.Rows.{Places, IsRow, rounds, after}
 use Rattle.cr_row.proofs.ChangeLaws.{length-changed}
 use Rattle.cr_row.proofs.RowLaws.{length-rounds}
 use Rattle.cr_model.specs.Problems.{ProblemParts}
-use Rattle.cr_model.specs.Callings.{rows_from, last_of, rows_of, length_of, changes_of_all, AllDiffer, HasSteps}
+use Rattle.cr_model.specs.Callings.{rows_from, last_of, rows_of, length_of, changes_of_all, AllDiffer}
 use Rattle.cr_model.specs.Queries.{part_cap}
 use Rattle.cr_model.specs.Dead.{parts_of, is_long}
 use Rattle.cr_model.specs.Decided.{has_steps}

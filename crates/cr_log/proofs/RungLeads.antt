@@ -1,8 +1,8 @@
 -- A lead on its way onto the stack of a node's rows, and what it tells of the child.
-use Rattle.std.proofs.Common.{◌≡◌, ◌≢◌, ℕ, ◌+◌, ◌-◌, ◌<◌, ◌≤◌, Bool, true, false, ◌&&◌, List, [], ◌∷◌, ◌++◌, length, get_or, take, map, All, nat_lt, inl, inr, refl, sym, ap, ap₂, ◌∙◌, subst, arith, length-append}
+use Rattle.std.proofs.Common.{◌≡◌, ℕ, ◌+◌, ◌<◌, ◌≤◌, true, false, ◌&&◌, List, [], ◌∷◌, ◌++◌, length, get_or, take, map, nat_lt, refl, sym, ap, ap₂, ◌∙◌, subst, arith, length-append}
 use Rattle.std.specs.Cmp.Lexicographic.{pointwise}
 use Rattle.std.specs.Prelude.{nat_eq}
-use Rattle.std.proofs.lemmas.Bool.{true≢false, false≢true, and_from, and_parts, ltb-true, ltb-false, lt-ltb, false_from_ne_true}
+use Rattle.std.proofs.lemmas.Bool.{and_from, and_parts, ltb-true, ltb-false, lt-ltb, false_from_ne_true}
 use Rattle.std.proofs.lemmas.List.{get_or-map, length-map, get_or-take, get_or-append-add, length-take-le, take_all, take_at, take-take, take_more}
 use Rattle.std.proofs.lemmas.List.Elements.{All-nil, All-cons, All-append}
 use Rattle.std.proofs.lemmas.Slice.Eq.{bytes_eq-Decides}
@@ -10,7 +10,6 @@ use Rattle.cr_row.specs.Rows.{rounds, product}
 use Rattle.cr_model.specs.Problems.{ProblemParts}
 use Rattle.cr_model.specs.Callings.{rows_of, length_of, head_of, AllDiffer, HasSteps, last_of, changes_of_all}
 use Rattle.cr_model.specs.Queries.{part_cap}
-use Rattle.cr_model.specs.Nodes.{IsValid}
 use Rattle.cr_model.specs.Sizes.{child}
 use Rattle.cr_model.specs.Dead.{is_long}
 use Rattle.cr_model.proofs.Below.{rows_counted}
@@ -22,7 +21,7 @@ use Rattle.cr_audit.specs.declared.verdict.Verdict.TheVariants as verdict
 use Rattle.cr_audit.specs.Verdicts.{row_at, is_again_at}
 use Rattle.cr_log.specs.FirstVerdicts.{IsFirstVerdict}
 use Rattle.cr_log.specs.Logging.{opens, IsAt, KeepsFront, IsTwice}
-use Rattle.cr_log.proofs.FirstOnes.{first_long, first_again}
+use Rattle.cr_log.proofs.FirstOnes.{first_again}
 
 -- as many rows as changes
 pub as_many : (p : ProblemParts) (node : List ℕ) → length (rows_of p node) ≡ length_of p node
@@ -60,10 +59,10 @@ module _ (old : StackParts) (head : List ℕ) (lead : List (List ℕ)) (index : 
       let one_more : length old.rows + (index + 1) ≡ (length old.rows + index) + 1 = omega arith in
       pushed.2
       ∙ ap₂ (λ (rows : List (List ℕ)) (room : ℕ). stack_of rows room)
-          (ap₂ (λ (rows : List (List ℕ)) (r : List ℕ). rows ++ r ∷ []) rows_are (sym (next_is row item is at))
-          ∙ sym (take_more (old.rows ++ map (product head) lead) (length old.rows + index) [] (omega (arith, whole)))
-          ∙ ap (λ (n : ℕ). take n (old.rows ++ map (product head) lead)) (sym one_more))
-          (ap (λ (s : StackParts). s.room) ringing)
+      (ap₂ (λ (rows : List (List ℕ)) (r : List ℕ). rows ++ r ∷ []) rows_are (sym (next_is row item is at))
+      ∙ sym (take_more (old.rows ++ map (product head) lead) (length old.rows + index) [] (omega (arith, whole)))
+      ∙ ap (λ (n : ℕ). take n (old.rows ++ map (product head) lead)) (sym one_more))
+      (ap (λ (s : StackParts). s.room) ringing)
 
   pub comes_again : (next : StackParts) (row item : List ℕ) (first again : ℕ) → row ≡ product head item → item ≡ get_or lead index item
       → StandsAt now.rows row first → next ≡ now → again ≡ length next.rows → AllDiffer next.rows

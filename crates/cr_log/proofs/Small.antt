@@ -1,5 +1,5 @@
 -- The numbers of first verdicts are small, and so are valid nodes and their touches.
-use Rattle.std.proofs.Common.{◌≡◌, ℕ, ◌+◌, ◌-◌, ◌*◌, ◌<◌, ◌≤◌, Bool, true, false, ◌&&◌, List, length, take, drop, nat_lt, refl, sym, ap, ◌∙◌, subst, arith}
+use Rattle.std.proofs.Common.{◌≡◌, ℕ, ◌-◌, ◌*◌, ◌<◌, ◌≤◌, true, false, ◌&&◌, List, length, take, drop, nat_lt, refl, arith}
 use Rattle.std.specs.Cmp.Lexicographic.{slice_cmp}
 use Rattle.std.specs.Ordering.{nat_cmp, is_lt}
 use Rattle.std.proofs.lemmas.Bool.{and_parts, ltb-true, ltb-false}
@@ -20,7 +20,7 @@ use Rattle.cr_audit.specs.declared.verdict.Verdict.{Verdict}
 use Rattle.cr_audit.specs.declared.verdict.Verdict.TheVariants as verdict
 use Rattle.cr_audit.specs.Verdicts.{is_valid, has_too_many, has_too_few}
 use Rattle.cr_audit.specs.Logs.{ItemIsSmall, IsSmall}
-use Rattle.cr_log.specs.FirstVerdicts.{comes_before, IsFirstVerdict}
+use Rattle.cr_log.specs.FirstVerdicts.{IsFirstVerdict}
 
 -- the touch of a valid node has few leads, and so has the node
 module _ (p : ProblemParts) (node : List ℕ) (sound : IsSound p) (valid : IsValid p node) where

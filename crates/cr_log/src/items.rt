@@ -177,13 +177,7 @@ fn misses_pattern(
 }
 
 // How many rows of a node fit a pattern.
-fn fitting(
-    problem: &Problem,
-    node: &[u8],
-    rows: &RowStack,
-    pattern: &Pattern,
-    shape: &Shape,
-) -> u64
+fn fitting(problem: &Problem, node: &[u8], rows: &RowStack, pattern: &Pattern, shape: &Shape) -> u64
     requires at { IsAt problem.now node.now rows.now }
     requires cells { FitsStage problem.now.stage pattern.now.cells }
     requires shape { shape.now ≡ shape_of problem.now.stage pattern.now.cells }

@@ -48,15 +48,18 @@ const LOGS: &[(Draft, &str, &[&[u8]])] = &[
     ),
     (
         Draft {
-            counts: &[Count {
-                mark: b'b',
-                min: 0,
-                max: 3,
-            }, Count {
-                mark: b'p',
-                min: 0,
-                max: 1,
-            }],
+            counts: &[
+                Count {
+                    mark: b'b',
+                    min: 0,
+                    max: 3,
+                },
+                Count {
+                    mark: b'p',
+                    min: 0,
+                    max: 1,
+                },
+            ],
             ..WITH_BOBS
         },
         "- open\np open\npp many count 1\npb again 7 15\nb open\nbp again 0 8\nbb again 0 8\n",
@@ -64,15 +67,18 @@ const LOGS: &[(Draft, &str, &[&[u8]])] = &[
     ),
     (
         Draft {
-            counts: &[Count {
-                mark: b'b',
-                min: 0,
-                max: 9,
-            }, Count {
-                mark: b'p',
-                min: 4,
-                max: 9,
-            }],
+            counts: &[
+                Count {
+                    mark: b'b',
+                    min: 0,
+                    max: 9,
+                },
+                Count {
+                    mark: b'p',
+                    min: 4,
+                    max: 9,
+                },
+            ],
             ..WITH_BOBS
         },
         "- few count 1\n",
@@ -116,15 +122,18 @@ const LOGS: &[(Draft, &str, &[&[u8]])] = &[
     ),
     (
         Draft {
-            method_counts: &[MethodCount {
-                letter: b'A',
-                min: 0,
-                max: 1,
-            }, MethodCount {
-                letter: b'C',
-                min: 2,
-                max: 9,
-            }],
+            method_counts: &[
+                MethodCount {
+                    letter: b'A',
+                    min: 0,
+                    max: 1,
+                },
+                MethodCount {
+                    letter: b'C',
+                    min: 2,
+                    max: 9,
+                },
+            ],
             ..SPLICED
         },
         "- open\nAp open\nApAp many leads 0\nApCp open\nApCpAp many leads 0\nApCpCp open\nApCpCpAp long\nApCpCpCp long\nCp open\nCpAp back 1\nCpCp open\nCpCpAp back 1\nCpCpCp open\nCpCpCpAp long\nCpCpCpCp long\n",

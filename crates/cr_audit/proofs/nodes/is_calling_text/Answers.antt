@@ -1,4 +1,4 @@
-use Rattle.std.proofs.Common.{◌≡◌, ◌<◌, false, length, refl, rules}
+use Rattle.std.proofs.Common.{◌≡◌, ◌<◌, length, refl, rules}
 use Rattle.std.proofs.lemmas.Bool.{false≢true}
 use Rattle.cr_audit.proofs.Walking.{after_lead_is, begins_somewhere, empty_calling}
 use Rattle.cr_audit.proofs.nodes.is_calling_text.Goals as goal

@@ -1,4 +1,4 @@
-use Rattle.std.proofs.Common.{◌≡◌, ℕ, ◌+◌, ◌≤◌, ◌<◌, true, List, length, ap, sym, ◌∙◌, rules}
+use Rattle.std.proofs.Common.{◌≡◌, ◌+◌, ◌≤◌, ◌<◌, true, length, ap, sym, ◌∙◌, rules}
 use Rattle.cr_model.specs.Sizes.{child}
 use Rattle.cr_audit.specs.Dues.{later, dues}
 use Rattle.cr_audit.proofs.Dues.{from_next, from_last}

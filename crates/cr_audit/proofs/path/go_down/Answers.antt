@@ -1,4 +1,4 @@
-use Rattle.std.proofs.Common.{◌≡◌, ◌++◌, length, ap, ap₂, sym, ◌∙◌, subst}
+use Rattle.std.proofs.Common.{◌≡◌, ◌++◌, ap, sym, ◌∙◌, subst}
 use Rattle.cr_row.specs.Rows.{rounds}
 use Rattle.cr_model.specs.Books.{lead_text, calling_text}
 use Rattle.cr_model.specs.Callings.{HasSteps, changes_of, rows_from, last_of, rows_of}

@@ -1,4 +1,4 @@
-use Rattle.std.proofs.Common.{◌≡◌, ◌<◌, ◌++◌, true, cond, [], length, ap, sym, ◌∙◌}
+use Rattle.std.proofs.Common.{◌++◌, true, cond, [], ap, sym, ◌∙◌}
 use Rattle.cr_model.specs.Sizes.{children}
 use Rattle.cr_model.specs.Sound.{sound_leads}
 use Rattle.cr_audit.specs.Dues.{later, dues}

@@ -1,8 +1,8 @@
-use Rattle.std.proofs.Common.{◌≡◌, sym, ap, ◌∙◌, subst}
+use Rattle.std.proofs.Common.{◌≡◌, ap, ◌∙◌, subst}
 use Rattle.cr_model.specs.Callings.{HasSteps, rows_of}
 use Rattle.cr_model.specs.Books.{calling_text}
 use Rattle.cr_model.specs.Sizes.{child}
-use Rattle.cr_audit.proofs.Paths.{rows_back, text_back, steps_back, step_back}
+use Rattle.cr_audit.proofs.Paths.{rows_back, text_back, steps_back}
 use Rattle.cr_audit.proofs.path.go_up.Goals as goal
 
 pub returns-clause-at : goal.returns-clause-at

@@ -1,7 +1,7 @@
-use Rattle.std.proofs.Common.{◌≡◌, List, ◌∙◌, ap, sym, subst, rules}
+use Rattle.std.proofs.Common.{◌≡◌, ◌∙◌, ap, sym, subst, rules}
 use Rattle.cr_model.specs.Callings.{HasSteps, length_of}
 use Rattle.cr_audit.specs.declared.touches.Touch.{Touch}
-use Rattle.cr_audit.specs.Touched.{IsMeasured, AreTouches, callings}
+use Rattle.cr_audit.specs.Touched.{IsMeasured, AreTouches}
 use Rattle.cr_audit.proofs.Adding.{touch_order, all_inserted, inserted, tied}
 use Rattle.cr_audit.proofs.touches.add.Goals as goal
 

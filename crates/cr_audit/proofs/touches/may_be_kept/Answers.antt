@@ -1,4 +1,4 @@
-use Rattle.std.proofs.Common.{◌≡◌, ℕ, List, length, ap, ap₂, ◌∙◌}
+use Rattle.std.proofs.Common.{ℕ, List, length, ap, ap₂, ◌∙◌}
 use Rattle.cr_row.specs.Rows.{rounds}
 use Rattle.cr_model.specs.Callings.{last_of}
 use Rattle.cr_audit.proofs.Paths.{head_long}

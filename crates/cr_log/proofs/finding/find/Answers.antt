@@ -1,4 +1,4 @@
-use Rattle.std.proofs.Common.{◌≡◌, ◌≢◌, ◌∙◌, ℕ, Bool, true, false, cond, List, [], ◌∷◌, ◌++◌, sym, ap, subst, append-nil}
+use Rattle.std.proofs.Common.{ℕ, List, sym, subst}
 use Rattle.cr_model.specs.Callings.{HasSteps}
 use Rattle.cr_model.specs.Touches.{Kept}
 use Rattle.cr_log.proofs.Small.{touch_is_short}

@@ -1,5 +1,4 @@
-use Rattle.std.proofs.Common.{◌≡◌, ap, ◌∙◌, arith}
-use Rattle.cr_model.specs.Callings.{rows_of, length_of}
+use Rattle.std.proofs.Common.{arith}
 use Rattle.cr_query.proofs.Sizes.{cap_short}
 use Rattle.cr_log.proofs.Places.{rows_number}
 use Rattle.cr_log.proofs.items.changes_left.Goals as goal

@@ -1,7 +1,6 @@
 use Rattle.std.proofs.Common.{◌≡◌, ◌<◌, ℕ, false, length, inl, inr, sym, ap, subst, arith, ◌∙◌}
 use Rattle.std.proofs.lemmas.Bool.{cases_eq}
 use Rattle.cr_model.specs.Problems.{QueryParts}
-use Rattle.cr_model.specs.declared.query.Count.{Count}
 use Rattle.cr_audit.specs.declared.verdict.Item.TheVariants as item
 use Rattle.cr_log.specs.FirstVerdicts.{is_missed}
 use Rattle.cr_log.proofs.FirstItems.{count_kept}

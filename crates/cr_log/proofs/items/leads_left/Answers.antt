@@ -1,6 +1,6 @@
-use Rattle.std.proofs.Common.{◌≡◌, ℕ, ◌-◌, ◌/◌, ◌≤◌, ap, ap₂, ◌∙◌, arith}
+use Rattle.std.proofs.Common.{◌≡◌, ℕ, ◌-◌, ◌/◌, ap₂, arith}
 use Rattle.std.proofs.Math.Nat.{div-le_self}
-use Rattle.cr_model.specs.Callings.{length_of, shortest}
+use Rattle.cr_model.specs.Callings.{length_of}
 use Rattle.cr_model.specs.Queries.{part_cap}
 use Rattle.cr_query.proofs.Sizes.{part_cap_short}
 use Rattle.cr_log.proofs.Places.{rows_number}

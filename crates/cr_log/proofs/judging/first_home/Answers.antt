@@ -1,4 +1,4 @@
-use Rattle.std.proofs.Common.{◌≡◌, ℕ, List, ◌∙◌, refl, sym, ap, subst}
+use Rattle.std.proofs.Common.{ℕ, List, ◌∙◌, refl, sym, ap, subst}
 use Rattle.std.specs.Prelude.{Contains}
 use Rattle.cr_row.specs.Rows.{rounds}
 use Rattle.cr_rowset.specs.Pushing.{StandsAt}

@@ -1,4 +1,4 @@
-use Rattle.std.proofs.Common.{◌≡◌, ℕ, ◌+◌, ◌-◌, ◌<◌, Bool, true, false, cond, List, [], ◌∷◌, ◌++◌, length, take, refl, sym, ap, ◌∙◌, subst, arith}
+use Rattle.std.proofs.Common.{◌≡◌, ℕ, ◌+◌, ◌<◌, List, ◌++◌, length, take, sym, ap, ◌∙◌, subst, arith}
 use Rattle.cr_model.specs.Sizes.{child, children}
 use Rattle.cr_rowset.specs.Stacks.{StackParts}
 use Rattle.cr_log.specs.declared.logging.Place.{Place}

@@ -1,4 +1,4 @@
-use Rattle.std.proofs.Common.{◌≡◌, ℕ, List, [], ◌∷◌, ◌++◌, refl, sym, ap, ◌∙◌, subst}
+use Rattle.std.proofs.Common.{ℕ, List, ◌++◌, refl, sym, ◌∙◌, subst}
 use Rattle.cr_model.specs.Sizes.{children}
 use Rattle.cr_log.specs.Logging.{opens, IsLogged}
 use Rattle.cr_log.proofs.Adding.{opened_is}

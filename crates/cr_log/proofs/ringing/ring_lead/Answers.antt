@@ -1,4 +1,4 @@
-use Rattle.std.proofs.Common.{◌≡◌, ◌<◌, ◌∙◌, length, sym, ap, arith}
+use Rattle.std.proofs.Common.{◌<◌, length, arith}
 use Rattle.cr_log.proofs.RungLeads.{pushed_on}
 use Rattle.cr_log.proofs.ringing.ring_lead.Goals as goal
 

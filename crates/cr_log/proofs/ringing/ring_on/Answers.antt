@@ -1,7 +1,6 @@
-use Rattle.std.proofs.Common.{◌≡◌, ◌<◌, ◌≤◌, ◌∙◌, ◌+◌, Bool, true, false, length, nat_lt, refl, sym, ap, subst, arith, rules, ℕ}
+use Rattle.std.proofs.Common.{◌∙◌, ◌+◌, length, nat_lt, refl, sym, ap, arith, ℕ}
 use Rattle.std.proofs.lemmas.Bool.{ltb-false}
 use Rattle.cr_model.specs.Callings.{last_of}
-use Rattle.cr_model.specs.Dead.{is_long}
 use Rattle.cr_model.specs.Queries.{part_cap}
 use Rattle.cr_model.specs.Sizes.{child}
 use Rattle.cr_row.specs.Rows.{rounds}
