@@ -1,6 +1,6 @@
 //! Which verdicts hold of a node.
 
-ghost use Rattle.std.specs.Prelude.{◌≡◌, ◌-◌, ◌<◌, ◌≤◌, ℕ, List, [], length, get_or, take, drop, nat_eq, pos, int_lt};
+ghost use Rattle.std.specs.Prelude.{◌≡◌, ◌-◌, ◌/◌, ◌<◌, ◌≤◌, ℕ, List, [], length, get_or, take, drop, nat_eq, pos, int_lt};
 ghost use Rattle.std.specs.Cmp.Lexicographic.{pointwise, slice_cmp};
 ghost use Rattle.std.specs.Ordering.{nat_cmp, is_lt};
 ghost use Rattle.cr_row.specs.Rows.{rounds};
@@ -248,7 +248,16 @@ fn few_changes(problem: &Problem, node: &[u8], rows: &[Row]) -> bool
 fn leads_left(problem: &Problem, rows: &[Row]) -> u64
     ensures { (node : List ℕ) → rows.now ≡ rows_of problem.now node → result ≡ leads_left problem.now node }
 {
-    problem.part_cap().saturating_sub(rows.len() as u64) / problem.shortest()
+    let left = problem.part_cap().saturating_sub(rows.len() as u64);
+    leads_in(left, problem.shortest())
+}
+
+// How many leads of this length so many changes hold.
+fn leads_in(changes: u64, length: u64) -> u64
+    requires { 1 ≤ length }
+    ensures { result ≡ changes / length }
+{
+    changes / length
 }
 
 // Whether the steps from one on are less than as many at the beginning, where that counts.

@@ -4,4 +4,4 @@ use Rattle.cr_audit.proofs.judging.leads_left.Goals as goal
 
 pub returns : goal.returns
 returns c = λ node is.
-    ap₂ ◌/◌ (c.saturating_sub.ensures ∙ ap₂ ◌-◌ c.part_cap.ensures (counted c.args.problem.now node c.args.rows.now is)) c.shortest.ensures.is
+    c.leads_in.ensures ∙ ap₂ ◌/◌ (c.saturating_sub-left.ensures ∙ ap₂ ◌-◌ c.part_cap.ensures (counted c.args.problem.now node c.args.rows.now is)) c.shortest.ensures.is
