@@ -4,7 +4,7 @@ import argparse
 import os
 import sys
 
-from companion import check, problem, search, show
+from companion import check, machines, problem, search, show
 from companion.listing import add_arguments as add_listing
 from companion.listing import run as run_listing
 from companion.mistakes import Mistake
@@ -14,6 +14,7 @@ COMMANDS = {
     "check": ("say what is wrong with a problem file, and what is surely not meant", check.add_arguments, check.run),
     "show": ("show a book as a table, or one touch of it with its blue line", show.add_arguments, show.run),
     "search": ("search a problem so that nothing that is done is lost", search.add_arguments, search.run),
+    "shards": ("search a problem on many machines, by GNU parallel or Slurm", machines.add_arguments, machines.run),
     "methods": ("list the methods of the library", add_listing, run_listing),
 }
 

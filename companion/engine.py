@@ -5,6 +5,7 @@ import signal
 import subprocess
 import tempfile
 import time
+from collections.abc import Callable
 from contextlib import ExitStack, suppress
 from dataclasses import dataclass
 from pathlib import Path
@@ -19,7 +20,7 @@ BUILT = TOP / "crates/cr_main/out/cr_main"
 SMALL = TOP / "examples/plain-bob-minimus.toml"
 # So many seconds pass at most until a signal that was lost is heard.
 LONGEST_WAIT = 0.5
-FINISHED, WORDS, STOPPED, PROBLEM, WRITE_FAULT, NO_MEMORY, NO_TRAIL = 0, 2, 3, 4, 7, 8, 10
+FINISHED, WORDS, STOPPED, PROBLEM, WRITE_FAULT, NO_MEMORY, NO_TRAIL, NO_JOIN = 0, 2, 3, 4, 7, 8, 10, 11
 
 
 def program() -> Path | None:
@@ -87,11 +88,11 @@ class Run:
         self.process.wait()
         self.status()
 
-    def finish(self) -> None:
+    def finish(self, mistake: "Callable[[Run], Mistake] | None" = None) -> None:
         """Waits for its end. It must finish, or it is a mistake."""
         try:
             if self.wait() != FINISHED:
-                raise self.mistake()
+                raise mistake(self) if mistake else self.mistake()
         finally:
             self.stop()
 

@@ -2,6 +2,7 @@
 
 import fcntl
 import os
+import time
 from collections.abc import Iterator
 from contextlib import contextmanager
 from pathlib import Path
@@ -13,6 +14,9 @@ PART = ".part"
 PROBLEM, OPENING, BOOK, TIMES = "problem.toml", "opening.txt", "book.txt", "times.txt"
 CUTS, BOOKS, TRAILS = "cuts", "books", "trails"
 LOCK = "lock"
+PAUSE = 0.1
+# So long it is waited for one who only looks whether the folder is free.
+SHORT_WAIT = 0.5
 
 
 class Folder:
@@ -56,21 +60,35 @@ class Folder:
     def drop_parts(self) -> None:
         """Takes away what was not whole when an earlier run ended."""
         for file in self.top.rglob("*" + PART):
-            file.unlink()
+            file.unlink(missing_ok=True)
+
+
+def take_lock(lock: BinaryIO, patience: float) -> bool:
+    """Whether the lock could be taken, for which it waits so many seconds at most."""
+    until = time.monotonic() + patience
+    while True:
+        try:
+            fcntl.flock(lock, fcntl.LOCK_EX | fcntl.LOCK_NB)
+            return True
+        except BlockingIOError:
+            if time.monotonic() >= until:
+                return False
+            time.sleep(PAUSE)
 
 
 @contextmanager
-def open_folder(top: Path, problem: bytes) -> Iterator[Folder]:
-    """The folder of this problem's search, made where it isn't there, and kept from other processes."""
+def open_folder(top: Path, problem: bytes, patience: float = SHORT_WAIT) -> Iterator[Folder]:
+    """The folder of this problem's search, made where it isn't there, and kept from other processes.
+
+    It waits so many seconds for one that works in it.
+    """
     folder = Folder(top)
     refuse_strange(folder)
     for name in (CUTS, BOOKS, TRAILS):
         folder.path(name).mkdir(parents=True, exist_ok=True)
     with folder.path(LOCK).open("wb") as lock:
-        try:
-            fcntl.flock(lock, fcntl.LOCK_EX | fcntl.LOCK_NB)
-        except BlockingIOError:
-            raise Mistake(f"another ./compose search works in {top}.") from None
+        if not take_lock(lock, patience):
+            raise Mistake(f"another ./compose works in {top}.")
         folder.drop_parts()
         take_problem(folder, problem)
         yield folder

@@ -46,20 +46,30 @@ def usable_memory() -> int:
     return int(free_memory() * (1 - LEFT))
 
 
-def bounded(memory: int) -> Callable[[], None]:
-    """What a new process does first: it takes no more than so many bytes, and ends where the one that started it does."""
+def ending_with_starter(name: signal.Signals) -> Callable[[], None]:
+    """What a new process does first: it gets this signal where the one that started it ends."""
     call = _death_signal()
     starter = os.getpid()
+
+    def begin() -> None:
+        if call:
+            call(SET_DEATH_SIGNAL, name)
+        # No signal comes of an end that was before.
+        if os.getppid() != starter:
+            os._exit(1)
+
+    return begin
+
+
+def bounded(memory: int) -> Callable[[], None]:
+    """What a new process does first: it takes no more than so many bytes, and ends where the one that started it does."""
+    end_with_starter = ending_with_starter(signal.SIGKILL)
 
     def begin() -> None:
         hard = resource.getrlimit(resource.RLIMIT_AS)[1]
         most = memory if hard == resource.RLIM_INFINITY else min(memory, hard)
         resource.setrlimit(resource.RLIMIT_AS, (most, hard))
-        if call:
-            call(SET_DEATH_SIGNAL, signal.SIGKILL)
-        # No signal comes of an end that was before.
-        if os.getppid() != starter:
-            os._exit(1)
+        end_with_starter()
 
     return begin
 

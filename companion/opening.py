@@ -57,10 +57,10 @@ class Opener:
             after_round(told)
         return told
 
-    def cut(self, checkpoint: Checkpoint, folder: Folder, name: str) -> None:
-        """Cuts a checkpoint into shards of one node each, which stand in a file as blocks."""
+    def cut(self, checkpoint: Checkpoint, folder: Folder, name: str, most: int = MOST_NODES) -> None:
+        """Cuts a checkpoint into shards of one node each, or into so many, which stand in a file as blocks."""
         with folder.part(name) as sink:
             text = checkpoint_text(checkpoint, self.leads)
-            into = str(max(1, len(checkpoint.nodes)))
+            into = str(max(1, min(most, len(checkpoint.nodes))))
             self.engine.start_on(["--do", "cut", "--into", into], text, sink, self.engine.jobs).finish()
         folder.keep(name)

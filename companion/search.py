@@ -1,8 +1,6 @@
 """`./compose search`: a long search of which nothing that is done is lost."""
 
 import argparse
-import subprocess
-import sys
 from dataclasses import dataclass
 from pathlib import Path
 
@@ -14,7 +12,7 @@ from companion.ending import join_books
 from companion.engine import Engine, ready_program
 from companion.faults import Fault, read_values
 from companion.folder import Folder, open_folder
-from companion.interrupts import ended_by_signals
+from companion.keeping import kept
 from companion.mistakes import Mistake
 from companion.opening import Opener
 from companion.progress import Progress
@@ -73,27 +71,20 @@ def run(args: argparse.Namespace) -> int:
     leads = leads_of(args.file, problem)
     engine = Engine(ready_program(problem), wish.jobs, wish.memory)
     progress = Progress()
-    try:
-        with ended_by_signals(), open_folder(args.into, problem) as folder:
-            if touches_of(folder.path(files.BOOK)) is None:
-                search(folder, engine, Opener(engine, problem, leads), wish, progress, args)
-            progress.close()
-            print(f"{folder.path(files.BOOK)}: touches {whole_touches(folder.path(files.BOOK))}")
-        return 0
-    except KeyboardInterrupt:
+    return kept(args.into, progress, lambda: search_in(args, problem, engine, leads, wish, progress))
+
+
+def search_in(args: argparse.Namespace, problem: bytes, engine: Engine, leads: Leads, wish: Wish, progress: Progress) -> None:
+    """Searches in the folder, and tells where the book is."""
+    with open_folder(args.into, problem) as folder:
+        if touches_of(folder.path(files.BOOK)) is None:
+            search(folder, engine, Opener(engine, problem, leads), wish, progress, args)
         progress.close()
-        print(f"compose: stopped; what is done stands in {args.into}, and the same command goes on.", file=sys.stderr)
-        return 130
-    except Mistake:
-        progress.close()
-        raise
-    except subprocess.SubprocessError as error:
-        progress.close()
-        raise Mistake(f"the program can't be started ({error}); what is done stands in {args.into}.") from None
-    except OSError as error:
-        progress.close()
-        where = f"{error.filename}: " if error.filename else ""
-        raise Mistake(f"{where}{(error.strerror or str(error)).lower()}; what is done stands in {args.into}.") from None
+        tell_book(folder)
+
+
+def tell_book(folder: Folder) -> None:
+    print(f"{folder.path(files.BOOK)}: touches {whole_touches(folder.path(files.BOOK))}")
 
 
 def leads_of(name: str, problem: bytes) -> Leads:
@@ -111,7 +102,7 @@ def search(folder: Folder, engine: Engine, opener: Opener, wish: Wish, progress:
         TrailSearch(folder, engine, args.every, progress).search()
         return
     if not folder.has(cut_file(FIRST)):
-        opened = open_tree(folder, opener, wish, progress)
+        opened = open_tree(folder, opener, wish.shards, progress)
         opener.cut(opened, folder, cut_file(FIRST))
         folder.drop(files.OPENING)
     shards = Shards(folder)
@@ -120,12 +111,12 @@ def search(folder: Folder, engine: Engine, opener: Opener, wish: Wish, progress:
     join_books(folder, engine, [book_file(name) for name in shards.done], sum(shards.done.values()))
 
 
-def open_tree(folder: Folder, opener: Opener, wish: Wish, progress: Progress) -> Checkpoint:
-    """The tree opened breadth-first; each round of it stands in the folder."""
+def open_tree(folder: Folder, opener: Opener, wanted: int, progress: Progress) -> Checkpoint:
+    """The tree opened breadth-first into so many nodes; each round of it stands in the folder."""
 
     def keep(told: Checkpoint) -> None:
         folder.write(files.OPENING, checkpoint_text(told, opener.leads))
-        progress.show(f"opening: {len(told.nodes)} of {wish.shards} shards")
+        progress.show(f"opening: {len(told.nodes)} of {wanted} shards")
 
     begun = folder.read(files.OPENING) if folder.has(files.OPENING) else opener.text([], [b""])
-    return opener.opened(begun, wish.shards, keep)
+    return opener.opened(begun, wanted, keep)

@@ -121,6 +121,11 @@ class Shards:
         return body_at(self.folder.path(cut_file(shard.cut)), shard.place)
 
 
+def split_shard(shards: Shards, opener: Opener, shard: Shard) -> None:
+    """Cuts what is below a shard."""
+    opener.cut(opener.opened(shards.body(shard), SPLIT), shards.folder, cut_file(shard.name))
+
+
 class ShardSearch:
     """The search of what waits, several shards at a time."""
 
@@ -198,8 +203,7 @@ class ShardSearch:
     def split(self, shard: Shard, seconds: float, why: str) -> None:
         """Gives a shard up, and cuts what is below it."""
         self.folder.drop(book_file(shard.name) + files.PART)
-        opened = self.opener.opened(self.shards.body(shard), SPLIT)
-        self.opener.cut(opened, self.folder, cut_file(shard.name))
+        split_shard(self.shards, self.opener, shard)
         self.shards.took(shard, seconds, False)
         before = len(self.shards.waiting)
         self.shards.read_cut(shard.name)
