@@ -3,7 +3,7 @@
 //!
 //! They are meant for workers that share no lock: each worker has the end of its own lane, and a thief that steals
 //! from every lane. The numbers of a lane ascend. Whatever the threads do, each number that was put is left, taken
-//! or stolen, once. No crate uses lanes yet. All memory is taken in [`Lanes::new`].
+//! or stolen, once. All memory is taken in [`Lanes::new`].
 //!
 //! - [`Lanes::new`]: a lane for each of 1 to 64 workers, with its end, and as many thieves.
 //! - [`LaneEnd::put`]: puts a number behind the others, or gives it back where the lane had its fill ([`Full`]).
