@@ -50,15 +50,10 @@ const ROOT: &str = minimus! {
     "block 147\n", "found 0\njobs 1\njob 1\n0 -\nend\n";
 };
 
-// The first shard, and that of another problem.
-const OTHER: &str = concat!(
-    doubles! {
-        "block 190\n", "found 0\njobs 1\njob 1\n0 b\nend\n";
-    },
-    minimus! {
-        "block 147\n", "found 0\njobs 1\njob 1\n0 -\nend\n";
-    }
-);
+// The first shard as a block.
+const FIRST_BLOCK: &str = doubles! {
+    "block 190\n", "found 0\njobs 1\njob 1\n0 b\nend\n";
+};
 
 // What the first shard covers.
 const FIRST_BOOK: &str = "20 bb\ntouches 1\n";
@@ -81,11 +76,6 @@ const CALLS: &[(&[&str], &str, Ending<'static>)] = &[
     (JOIN, TWO, (0, WHOLE, "")),
     (JOIN, THREE, (0, WHOLE, "")),
     (JOIN, TWICE, (11, "", "ringsearch: join 5 Overlap 0 1\n")),
-    (
-        JOIN,
-        OTHER,
-        (11, "", "ringsearch: join 4 OtherProblem 1 8\n"),
-    ),
     (JOIN, "", (11, "", "ringsearch: join 2 Blocks 0\n")),
     (
         JOIN,
@@ -112,6 +102,13 @@ fn searches_are_cut_and_joined(rt: HostRuntime) -> Result<(), Fail> {
         check(ending.1, ends(&rt, words, input.as_bytes(), ending)?)?;
     }
     Ok(())
+}
+
+#[test]
+fn shards_of_other_problems_are_not_joined(rt: HostRuntime) -> Result<(), Fail> {
+    let input = format!(in rt.alloc(); "{FIRST_BLOCK}{ROOT}")?;
+    let ending = (11, "", "ringsearch: join 4 OtherProblem 1 8\n");
+    check("another problem", ends(&rt, JOIN, input.as_bytes(), ending)?)
 }
 
 #[test]
