@@ -22,6 +22,7 @@ max = 24
         )
     };
 }
+
 pub(crate) use minimus;
 
 // Checkpoints of Plain Bob Doubles.
@@ -49,4 +50,5 @@ max = 120
         )
     };
 }
+
 pub(crate) use doubles;

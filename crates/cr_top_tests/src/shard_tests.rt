@@ -108,7 +108,10 @@ fn searches_are_cut_and_joined(rt: HostRuntime) -> Result<(), Fail> {
 fn shards_of_other_problems_are_not_joined(rt: HostRuntime) -> Result<(), Fail> {
     let input = format!(in rt.alloc(); "{FIRST_BLOCK}{ROOT}")?;
     let ending = (11, "", "ringsearch: join 4 OtherProblem 1 8\n");
-    check("another problem", ends(&rt, JOIN, input.as_bytes(), ending)?)
+    check(
+        "another problem",
+        ends(&rt, JOIN, input.as_bytes(), ending)?,
+    )
 }
 
 #[test]
