@@ -71,6 +71,8 @@ module _ {S K : Type 0} (source : Reading S) (sink : Writing K) (turns : Option 
     says ended.ReadFault ends = absurd (reads ends.0.1)
     says (ended.Trail fault) ends = absurd ends.0
     says (ended.Join fault) ends = absurd ends.0
+    says (ended.Audit fault) ends = absurd ends.0
+    says ended.NotProblem ends = absurd ends.0
 
   -- where no write failed, a search did not end so
   pub no_write_fault : (Rose (sink.faults sink.old) (sink.faults sink.new) → ⊥) → (status : Status)
@@ -92,6 +94,8 @@ made sink number writes (ended.Checkpoint fault) ends = absurd ends
 made sink number writes ended.ReadFault ends = absurd ends
 made sink number writes (ended.Trail fault) ends = absurd ends
 made sink number writes (ended.Join fault) ends = absurd ends
+made sink number writes (ended.Audit fault) ends = absurd ends
+made sink number writes ended.NotProblem ends = absurd ends
 made sink number writes ended.TooLong ends = absurd ends
 
 -- each input has the answer that it is due, unless memory was wanting
@@ -130,6 +134,8 @@ module _ (input : List ℕ) (one : HasOneAnswer input) where
     finishes keeps ended.ReadFault writes says = absurd says
     finishes keeps (ended.Trail fault) writes says = absurd says
     finishes keeps (ended.Join fault) writes says = absurd says
+    finishes keeps (ended.Audit fault) writes says = absurd says
+    finishes keeps ended.NotProblem writes says = absurd says
 
     -- with too few a checkpoint is
     pub stops : (after : ℕ) → turns ≡ Some after → after < size_of_all p most_rows nodes → (status : Status) → (status ≡ ended.WriteFault → ⊥)
@@ -149,6 +155,8 @@ module _ (input : List ℕ) (one : HasOneAnswer input) where
     stops after allowed less ended.ReadFault writes says = absurd says
     stops after allowed less (ended.Trail fault) writes says = absurd says
     stops after allowed less (ended.Join fault) writes says = absurd says
+    stops after allowed less (ended.Audit fault) writes says = absurd says
+    stops after allowed less ended.NotProblem writes says = absurd says
 
   -- what a text belongs to is an input
   reached_input : (turns : Option ℕ) (text : List ℕ) (stopped : Option ℕ) → IsReached turns input text stopped
@@ -179,6 +187,8 @@ module _ (input : List ℕ) (one : HasOneAnswer input) where
     no_problem fault ended.ReadFault due says = absurd says
     no_problem fault (ended.Trail other) due says = absurd says
     no_problem fault (ended.Join other) due says = absurd says
+    no_problem fault (ended.Audit other) due says = absurd says
+    no_problem fault ended.NotProblem due says = absurd says
 
     no_checkpoint : (fault : CheckFault) (status : Status) → (length input ≤ 2 ^ 40) × IsNoCheckpoint input fault → Says turns input status
         → (status ≡ ended.Checkpoint fault) ⊎ (status ≡ ended.NoMemory)
@@ -193,6 +203,8 @@ module _ (input : List ℕ) (one : HasOneAnswer input) where
     no_checkpoint fault ended.ReadFault due says = absurd says
     no_checkpoint fault (ended.Trail other) due says = absurd says
     no_checkpoint fault (ended.Join other) due says = absurd says
+    no_checkpoint fault (ended.Audit other) due says = absurd says
+    no_checkpoint fault ended.NotProblem due says = absurd says
 
     too_long : (status : Status) → 2 ^ 40 < length input → Says turns input status → (status ≡ ended.TooLong) ⊎ (status ≡ ended.NoMemory)
     too_long ended.TooLong due says = inl refl
@@ -206,6 +218,8 @@ module _ (input : List ℕ) (one : HasOneAnswer input) where
     too_long ended.ReadFault due says = absurd says
     too_long (ended.Trail fault) due says = absurd says
     too_long (ended.Join fault) due says = absurd says
+    too_long (ended.Audit fault) due says = absurd says
+    too_long ended.NotProblem due says = absurd says
 
     -- each refusal that an input is due comes, unless memory was wanting
     pub refuses : (due status : Status) → IsDue input due → Says turns input status → (status ≡ due) ⊎ (status ≡ ended.NoMemory)
@@ -220,6 +234,8 @@ module _ (input : List ℕ) (one : HasOneAnswer input) where
     refuses ended.ReadFault status is says = absurd is
     refuses (ended.Trail fault) status is says = absurd is
     refuses (ended.Join fault) status is says = absurd is
+    refuses (ended.Audit fault) status is says = absurd is
+    refuses ended.NotProblem status is says = absurd is
 
 -- how a search ends from a source that told its bytes, where no read failed
 module _ {S K : Type 0} (source : Reading S) (sink : Writing K) (turns : Option ℕ) (status : Status) (ends : EndsSearch source sink turns status)

@@ -42,6 +42,8 @@ module _ (law : OneLast) (input : List ℕ) where
   finishes short last is (ended.Problem fault) writes says = absurd says
   finishes short last is (ended.Checkpoint fault) writes says = absurd says
   finishes short last is (ended.Join fault) writes says = absurd says
+  finishes short last is (ended.Audit fault) writes says = absurd says
+  finishes short last is ended.NotProblem writes says = absurd says
   finishes short last is (ended.Stopped after) writes says = absurd says
   finishes short last is (ended.Words fault) writes says = absurd says
   finishes short last is ended.ReadFault writes says = absurd says
@@ -56,6 +58,8 @@ module _ (law : OneLast) (input : List ℕ) where
   no_last fault (ended.Problem other) due says = absurd says
   no_last fault (ended.Checkpoint other) due says = absurd says
   no_last fault (ended.Join other) due says = absurd says
+  no_last fault (ended.Audit other) due says = absurd says
+  no_last fault ended.NotProblem due says = absurd says
   no_last fault (ended.Stopped after) due says = absurd says
   no_last fault (ended.Words other) due says = absurd says
   no_last fault ended.ReadFault due says = absurd says
@@ -69,6 +73,8 @@ module _ (law : OneLast) (input : List ℕ) where
   too_long (ended.Problem fault) due says = absurd says
   too_long (ended.Checkpoint fault) due says = absurd says
   too_long (ended.Join fault) due says = absurd says
+  too_long (ended.Audit fault) due says = absurd says
+  too_long ended.NotProblem due says = absurd says
   too_long (ended.Stopped after) due says = absurd says
   too_long (ended.Words fault) due says = absurd says
   too_long ended.ReadFault due says = absurd says
@@ -85,6 +91,8 @@ module _ (law : OneLast) (input : List ℕ) where
   refuses (ended.Problem fault) status is says = absurd is
   refuses (ended.Checkpoint fault) status is says = absurd is
   refuses (ended.Join fault) status is says = absurd is
+  refuses (ended.Audit fault) status is says = absurd is
+  refuses ended.NotProblem status is says = absurd is
 
 -- how such a call ends from a source that told its bytes, where no read failed
 module _ {S K : Type 0} (source : Reading S) (sink : Writing K) (status : Status) (ends : EndsLast source sink status)
@@ -107,6 +115,8 @@ module _ {S K : Type 0} (source : Reading S) (sink : Writing K) (status : Status
   says (ended.Problem fault) ends = absurd ends.0
   says (ended.Checkpoint fault) ends = absurd ends.0
   says (ended.Join fault) ends = absurd ends.0
+  says (ended.Audit fault) ends = absurd ends.0
+  says ended.NotProblem ends = absurd ends.0
   says (ended.Stopped after) ends = absurd ends.0
   says (ended.Words fault) ends = absurd ends.0
   says ended.ReadFault ends = absurd (reads ends.0.1)

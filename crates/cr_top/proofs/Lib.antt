@@ -14,3 +14,10 @@ pub mod ShardAnswers
 pub mod ShardBooks
 pub mod CutTrails
 pub mod Noting
+pub mod ToldAnswers
+pub mod LogParts
+pub mod LogAnswers
+pub mod AuditReads
+pub mod AuditBlocks
+pub mod OneAudit
+pub mod AuditAnswers

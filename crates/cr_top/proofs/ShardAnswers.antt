@@ -44,6 +44,8 @@ module _ {S K : Type 0} (source : Reading S) (sink : Writing K) (into : ℕ) (st
   cut_says ended.ReadFault ends = absurd (reads ends.0.1)
   cut_says (ended.Trail fault) ends = absurd ends.0
   cut_says (ended.Join fault) ends = absurd ends.0
+  cut_says (ended.Audit fault) ends = absurd ends.0
+  cut_says ended.NotProblem ends = absurd ends.0
 
   no_cut_fault : (Rose (sink.faults sink.old) (sink.faults sink.new) → ⊥) → status ≡ ended.WriteFault → ⊥
   no_cut_fault writes is =
@@ -86,6 +88,8 @@ module _ (law : OneJoin) (input : List ℕ) where
   joins short joined is (ended.Words fault) writes says = absurd says
   joins short joined is ended.ReadFault writes says = absurd says
   joins short joined is (ended.Trail fault) writes says = absurd says
+  joins short joined is (ended.Audit fault) writes says = absurd says
+  joins short joined is ended.NotProblem writes says = absurd says
 
   no_join : (fault : JoinFault) (status : Status) → (length input ≤ 2 ^ 40) × FirstJoinFault input fault → JoinSays input status
       → (status ≡ ended.Join fault) ⊎ (status ≡ ended.NoMemory)
@@ -100,6 +104,8 @@ module _ (law : OneJoin) (input : List ℕ) where
   no_join fault (ended.Words other) due says = absurd says
   no_join fault ended.ReadFault due says = absurd says
   no_join fault (ended.Trail other) due says = absurd says
+  no_join fault (ended.Audit other) due says = absurd says
+  no_join fault ended.NotProblem due says = absurd says
 
   too_many : (status : Status) → 2 ^ 40 < length input → JoinSays input status → (status ≡ ended.TooLong) ⊎ (status ≡ ended.NoMemory)
   too_many ended.TooLong due says = inl refl
@@ -113,6 +119,8 @@ module _ (law : OneJoin) (input : List ℕ) where
   too_many (ended.Words fault) due says = absurd says
   too_many ended.ReadFault due says = absurd says
   too_many (ended.Trail fault) due says = absurd says
+  too_many (ended.Audit fault) due says = absurd says
+  too_many ended.NotProblem due says = absurd says
 
   refuses_join : (due status : Status) → IsJoinDue input due → JoinSays input status → (status ≡ due) ⊎ (status ≡ ended.NoMemory)
   refuses_join (ended.Join fault) status is says = no_join fault status is says
@@ -126,6 +134,8 @@ module _ (law : OneJoin) (input : List ℕ) where
   refuses_join (ended.Problem fault) status is says = absurd is
   refuses_join (ended.Checkpoint fault) status is says = absurd is
   refuses_join (ended.Trail fault) status is says = absurd is
+  refuses_join (ended.Audit fault) status is says = absurd is
+  refuses_join ended.NotProblem status is says = absurd is
 
 -- how a join ends from a source that told its bytes, where no read failed
 module _ {S K : Type 0} (source : Reading S) (sink : Writing K) (status : Status) (ends : EndsJoin source sink status)
@@ -152,6 +162,8 @@ module _ {S K : Type 0} (source : Reading S) (sink : Writing K) (status : Status
   join_says (ended.Words fault) ends = absurd ends.0
   join_says ended.ReadFault ends = absurd (reads ends.0.1)
   join_says (ended.Trail fault) ends = absurd ends.0
+  join_says (ended.Audit fault) ends = absurd ends.0
+  join_says ended.NotProblem ends = absurd ends.0
 
   no_join_fault : (Rose (sink.faults sink.old) (sink.faults sink.new) → ⊥) → status ≡ ended.WriteFault → ⊥
   no_join_fault writes is =

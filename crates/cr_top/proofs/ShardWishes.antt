@@ -32,6 +32,8 @@ of_kind a kind.Make wished is = of_make (number_for a) wished is
 of_kind a kind.Last wished is = let same : mode.Last ≡ wished = cc in subst HasShards same tt
 of_kind a kind.Cut wished is = of_cut a (into_of a) refl wished is
 of_kind a kind.Join wished is = let same : mode.Join ≡ wished = cc in subst HasShards same tt
+of_kind a kind.Log wished is = let same : mode.Log ≡ wished = cc in subst HasShards same tt
+of_kind a kind.Audit wished is = let same : mode.Audit ≡ wished = cc in subst HasShards same tt
 
 of_task : (a : Assigned) (task : Option Task) (wished : Mode) → option_and_then (λ task. mode_for a task.kind) task ≡ Some wished → HasShards wished
 of_task a None wished is = absurd (cc)

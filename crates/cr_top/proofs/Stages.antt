@@ -24,6 +24,8 @@ module _ {S : Type 0} (source : Reading S) (input : List ℕ) (read : WasRead so
   is_none refusal.TooLong is = absurd is
   is_none (refusal.Trail fault) is = absurd is
   is_none (refusal.Join fault) is = absurd is
+  is_none (refusal.Audit fault) is = absurd is
+  is_none refusal.NotProblem is = absurd is
 
   -- a search whose input was read ends as its text is written
   pub ends_search : {K : Type 0} (sink : Writing K) (turns : Option ℕ) (result : Result (Option ℕ) Refusal)
@@ -39,6 +41,8 @@ module _ {S : Type 0} (source : Reading S) (input : List ℕ) (read : WasRead so
   ends_search sink turns (Err refusal.TooLong) is = absurd is
   ends_search sink turns (Err (refusal.Trail fault)) is = absurd is
   ends_search sink turns (Err (refusal.Join fault)) is = absurd is
+  ends_search sink turns (Err (refusal.Audit fault)) is = absurd is
+  ends_search sink turns (Err refusal.NotProblem) is = absurd is
 
 -- a text of which a front was written
 pub cut_off : {K : Type 0} (sink : Writing K) (turns : Option ℕ) (input text : List ℕ) (stopped : Option ℕ) → IsReached turns input text stopped

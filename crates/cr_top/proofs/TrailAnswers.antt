@@ -58,6 +58,8 @@ module _ (input : List ℕ) (one : HasOneAnswer input) where
   finishes short is ended.ReadFault writes says = absurd says
   finishes short is (ended.Trail fault) writes says = absurd says
   finishes short is (ended.Join fault) writes says = absurd says
+  finishes short is (ended.Audit fault) writes says = absurd says
+  finishes short is ended.NotProblem writes says = absurd says
 
   no_problem : (fault : ProblemFault) (status : Status) → (length input ≤ 2 ^ 40) × IsNoProblem input fault → Says input status
       → (status ≡ ended.Problem fault) ⊎ (status ≡ ended.NoMemory)
@@ -72,6 +74,8 @@ module _ (input : List ℕ) (one : HasOneAnswer input) where
   no_problem fault ended.ReadFault due says = absurd says
   no_problem fault (ended.Trail other) due says = absurd says
   no_problem fault (ended.Join other) due says = absurd says
+  no_problem fault (ended.Audit other) due says = absurd says
+  no_problem fault ended.NotProblem due says = absurd says
 
   no_checkpoint : (fault : CheckFault) (status : Status) → (length input ≤ 2 ^ 40) × IsNoCheckpoint input fault → Says input status
       → (status ≡ ended.Checkpoint fault) ⊎ (status ≡ ended.NoMemory)
@@ -86,6 +90,8 @@ module _ (input : List ℕ) (one : HasOneAnswer input) where
   no_checkpoint fault ended.ReadFault due says = absurd says
   no_checkpoint fault (ended.Trail other) due says = absurd says
   no_checkpoint fault (ended.Join other) due says = absurd says
+  no_checkpoint fault (ended.Audit other) due says = absurd says
+  no_checkpoint fault ended.NotProblem due says = absurd says
 
   too_long : (status : Status) → 2 ^ 40 < length input → Says input status → (status ≡ ended.TooLong) ⊎ (status ≡ ended.NoMemory)
   too_long ended.TooLong due says = inl refl
@@ -99,6 +105,8 @@ module _ (input : List ℕ) (one : HasOneAnswer input) where
   too_long ended.ReadFault due says = absurd says
   too_long (ended.Trail fault) due says = absurd says
   too_long (ended.Join fault) due says = absurd says
+  too_long (ended.Audit fault) due says = absurd says
+  too_long ended.NotProblem due says = absurd says
 
   -- each refusal that an input is due comes, unless memory was wanting
   pub refuses : (due status : Status) → IsDue input due → Says input status → (status ≡ due) ⊎ (status ≡ ended.NoMemory)
@@ -113,6 +121,8 @@ module _ (input : List ℕ) (one : HasOneAnswer input) where
   refuses ended.ReadFault status is says = absurd is
   refuses (ended.Trail fault) status is says = absurd is
   refuses (ended.Join fault) status is says = absurd is
+  refuses (ended.Audit fault) status is says = absurd is
+  refuses ended.NotProblem status is says = absurd is
 
 -- how a trail ends from a source that told its bytes, where no read failed
 module _ {S K : Type 0} (source : Reading S) (sink : Writing K) (every : ℕ) (status : Status) (ends : EndsTrail source sink every status)
@@ -136,6 +146,8 @@ module _ {S K : Type 0} (source : Reading S) (sink : Writing K) (every : ℕ) (s
   says ended.ReadFault ends = absurd (reads ends.0.1)
   says (ended.Trail fault) ends = absurd ends.0
   says (ended.Join fault) ends = absurd ends.0
+  says (ended.Audit fault) ends = absurd ends.0
+  says ended.NotProblem ends = absurd ends.0
 
   no_write_fault : (Rose (sink.faults sink.old) (sink.faults sink.new) → ⊥) → status ≡ ended.WriteFault → ⊥
   no_write_fault writes is =

@@ -9,7 +9,7 @@ use Rattle.cr_words.specs.declared.wish.Mode.TheVariants as mode
 use Rattle.cr_top.specs.declared.status.Status.{Status}
 use Rattle.cr_top.specs.declared.status.Status.TheVariants as ended
 use Rattle.cr_top.specs.Streams.{Reading, Writing}
-use Rattle.cr_top.specs.Endings.{AsksSearch, AsksMake, AsksTrail, AsksLast, AsksCut, AsksJoin, EndsSearch, EndsMake, EndsTrail, EndsLast, EndsCut, EndsJoin, EndsWish, Ends}
+use Rattle.cr_top.specs.Endings.{AsksSearch, AsksMake, AsksTrail, AsksLast, AsksCut, AsksJoin, AsksLog, AsksAudit, EndsSearch, EndsMake, EndsTrail, EndsLast, EndsCut, EndsJoin, EndsLog, EndsAudit, EndsWish, Ends}
 
 module _ {S K : Type 0} (source : Reading S) (sink : Writing K) where
   -- a call that did nothing ends for want of memory as any wish may
@@ -22,6 +22,8 @@ module _ {S K : Type 0} (source : Reading S) (sink : Writing K) where
   unbegun none nothing unread unwritten mode.Last turns = ((([], none, omega arith), ap source.faults unread), unwritten)
   unbegun none nothing unread unwritten (mode.Cut into) turns = ((([], none, omega arith), ap source.faults unread), unwritten)
   unbegun none nothing unread unwritten mode.Join turns = ((([], none, omega arith), ap source.faults unread), unwritten)
+  unbegun none nothing unread unwritten mode.Log turns = ((([], none, omega arith), ap source.faults unread), unwritten)
+  unbegun none nothing unread unwritten mode.Audit turns = ((([], none, omega arith), ap source.faults unread), unwritten)
 
   -- where there was no memory for the words
   pub without_memory : source.took source.old source.new [] → sink.grew sink.old sink.new [] → source.new ≡ source.old → sink.new ≡ sink.old → (words : List Text)
@@ -63,6 +65,14 @@ module _ {S K : Type 0} (source : Reading S) (sink : Writing K) where
     -- a call whose words wish to join shards ends so
     pub as_join : AsksJoin words → Ends source sink words status → EndsJoin source sink status
     as_join asks ends = as_wish _ asks.2 ends
+
+    -- a call whose words wish for a log ends so
+    pub as_log : AsksLog words → Ends source sink words status → EndsLog source sink status
+    as_log asks ends = as_wish _ asks.2 ends
+
+    -- a call whose words wish for an audit ends so
+    pub as_audit : AsksAudit words → Ends source sink words status → EndsAudit source sink status
+    as_audit asks ends = as_wish _ asks.2 ends
 
   -- words that have a fault end with it, or there was not enough memory
   pub refused : (apart : (words : List Text) (wish : Wish) (fault : WordsFault) → IsAccepted words wish → IsWordsFaultOf words fault → ⊥)

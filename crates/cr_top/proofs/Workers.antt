@@ -65,6 +65,8 @@ of_kind a kind.Cut wished is = by (into_of a) is
     by None is = absurd (cc)
     by (Some n) is = let same : mode.Cut n ≡ wished = cc in subst HasTurns same tt
 of_kind a kind.Join wished is = let same : mode.Join ≡ wished = cc in subst HasTurns same tt
+of_kind a kind.Log wished is = let same : mode.Log ≡ wished = cc in subst HasTurns same tt
+of_kind a kind.Audit wished is = let same : mode.Audit ≡ wished = cc in subst HasTurns same tt
 
 of_task : (a : Assigned) (task : Option Task) (wished : Mode) → option_and_then (λ task. mode_for a task.kind) task ≡ Some wished → HasTurns wished
 of_task a None wished is = absurd (cc)

@@ -15,3 +15,5 @@ code_of ended.NoMemory = 8
 code_of ended.TooLong = 9
 code_of (ended.Trail fault) = 10
 code_of (ended.Join fault) = 11
+code_of (ended.Audit fault) = 12
+code_of ended.NotProblem = 13

@@ -3,6 +3,7 @@ use Rattle.std.specs.Prelude.{◌≡◌, ⊤, ℕ, ◌^◌, ◌<◌, ◌≤◌, 
 use Rattle.clap.specs.Words.{Text}
 use Rattle.cr_io.specs.Causes.{Rose}
 use Rattle.cr_io.specs.Ends.{TookAtMost, TookMore}
+use Rattle.cr_model.specs.Checkpoints.{IsCheckpoint}
 use Rattle.cr_model.specs.Problems.{ProblemParts}
 use Rattle.cr_shard.specs.JoinFaults.{IsJoin, FirstJoinFault}
 use Rattle.cr_store.specs.Blocks.{blocks}
@@ -13,6 +14,8 @@ use Rattle.cr_words.specs.declared.fault.WordsFault.{WordsFault}
 use Rattle.cr_words.specs.declared.wish.Wish.{Wish}
 use Rattle.cr_words.specs.declared.wish.Mode.{Mode}
 use Rattle.cr_words.specs.declared.wish.Mode.TheVariants as mode
+use Rattle.cr_top.specs.Audited.{IsAuditOf, FirstAuditFault, HasNoProblem, audit_line}
+use Rattle.cr_top.specs.Logged.{IsLogOf}
 use Rattle.cr_top.specs.Made.{IsSummaryOf}
 use Rattle.cr_top.specs.Shards.{IsCutOf}
 use Rattle.cr_top.specs.Streams.{Reading, Writing, WasRead, WasWritten, WasCutOff}
@@ -56,6 +59,14 @@ HasShards wished = ⊤
 abbrev pub AsksJoin : List Text → Type 0
 AsksJoin words = (workers : ℕ) × (turns : Option ℕ) × IsAccepted words (record { workers = workers; turns = turns; mode = mode.Join })
 
+-- the words wish for the log of a whole search
+abbrev pub AsksLog : List Text → Type 0
+AsksLog words = (workers : ℕ) × (turns : Option ℕ) × IsAccepted words (record { workers = workers; turns = turns; mode = mode.Log })
+
+-- the words wish for the audit of a book by such a log
+abbrev pub AsksAudit : List Text → Type 0
+AsksAudit words = (workers : ℕ) × (turns : Option ℕ) × IsAccepted words (record { workers = workers; turns = turns; mode = mode.Audit })
+
 -- the status of a call that wrote its text whole, after so many turns where it stopped, or was refused
 abbrev pub status_of : Result (Option ℕ) Refusal → Status
 status_of (Ok None) = ended.Finished
@@ -69,6 +80,8 @@ status_of (Err refusal.NoMemory) = ended.NoMemory
 status_of (Err refusal.TooLong) = ended.TooLong
 status_of (Err (refusal.Trail fault)) = ended.Trail fault
 status_of (Err (refusal.Join fault)) = ended.Join fault
+status_of (Err (refusal.Audit fault)) = ended.Audit fault
+status_of (Err refusal.NotProblem) = ended.NotProblem
 
 -- a call got no input.
 -- Problem, Checkpoint: the source was read to its end, and what was left in it is no problem, or no checkpoint, for
@@ -186,6 +199,43 @@ EndsJoin source sink ended.WriteFault =
     (input joined : List ℕ) × WasRead source input × IsJoin input joined × WasCutOff sink joined
 EndsJoin source sink status = GetsNoBytes source status × (sink.new ≡ sink.old)
 
+-- how a call ends that writes the log of a whole search.
+-- Finished: the source was read to its end, what was left in it is a problem, and the sink grew by the blocks of the
+-- problem, its book and a log that proves the book.
+-- Problem, NotProblem: the source was read to its end, and what was left in it is no problem, for this reason; or it begins
+-- as a checkpoint.
+-- WriteFault: the source was read to its end, the sink grew by a front of such blocks, and its count of faults rose.
+-- On every other status there were no bytes, or not enough memory. On Problem, NotProblem and these the sink is left as it
+-- was
+abbrev pub EndsLog : {S K : Type 0} → Reading S → Writing K → Status → Type 0
+EndsLog source sink ended.Finished =
+    (input text : List ℕ) × WasRead source input × IsLogOf input text × WasWritten sink text
+EndsLog source sink (ended.Problem fault) =
+    (input : List ℕ) × WasRead source input × IsNoProblem input fault × (sink.new ≡ sink.old)
+EndsLog source sink ended.NotProblem =
+    (input : List ℕ) × WasRead source input × IsCheckpoint input × (sink.new ≡ sink.old)
+EndsLog source sink ended.WriteFault =
+    (input text : List ℕ) × WasRead source input × IsLogOf input text × WasCutOff sink text
+EndsLog source sink status = GetsNoBytes source status × (sink.new ≡ sink.old)
+
+-- how a call ends that audits a book.
+-- Finished: the source was read to its end, what was left in it is three blocks, of a problem, a book and a log that
+-- proves the book, and the sink grew by the line with the number of the book's touches.
+-- Audit, Problem: the source was read to its end, and what was left in it has this fault; or its first block is no problem,
+-- for this reason.
+-- WriteFault: the source was read to its end, the sink grew by a front of such a line, and its count of faults rose.
+-- On every other status there were no bytes, or not enough memory. On Audit, Problem and these the sink is left as it was
+abbrev pub EndsAudit : {S K : Type 0} → Reading S → Writing K → Status → Type 0
+EndsAudit source sink ended.Finished =
+    (input : List ℕ) × (number : ℕ) × WasRead source input × IsAuditOf input number × WasWritten sink (audit_line number)
+EndsAudit source sink (ended.Audit fault) =
+    (input : List ℕ) × WasRead source input × FirstAuditFault input fault × (sink.new ≡ sink.old)
+EndsAudit source sink (ended.Problem fault) =
+    (input : List ℕ) × WasRead source input × HasNoProblem input fault × (sink.new ≡ sink.old)
+EndsAudit source sink ended.WriteFault =
+    (input : List ℕ) × (number : ℕ) × WasRead source input × IsAuditOf input number × WasCutOff sink (audit_line number)
+EndsAudit source sink status = GetsNoBytes source status × (sink.new ≡ sink.old)
+
 -- how a call for a wish ends, by its mode. One that makes a problem leaves the source as it was
 abbrev pub EndsWish : {S K : Type 0} → Reading S → Writing K → Mode → Option ℕ → Status → Type 0
 EndsWish source sink mode.Search turns status = EndsSearch source sink turns status
@@ -194,6 +244,8 @@ EndsWish source sink (mode.Trail every) turns status = EndsTrail source sink eve
 EndsWish source sink mode.Last turns status = EndsLast source sink status
 EndsWish source sink (mode.Cut into) turns status = EndsCut source sink into status
 EndsWish source sink mode.Join turns status = EndsJoin source sink status
+EndsWish source sink mode.Log turns status = EndsLog source sink status
+EndsWish source sink mode.Audit turns status = EndsAudit source sink status
 
 -- how a call ends whose words have a fault: it is told, or there was not enough memory, and source and sink are left as
 -- they were
@@ -228,3 +280,19 @@ abbrev pub IsJoinDue : List ℕ → Status → Type 0
 IsJoinDue input (ended.Join fault) = (length input ≤ 2 ^ 40) × FirstJoinFault input fault
 IsJoinDue input ended.TooLong = 2 ^ 40 < length input
 IsJoinDue input status = ⊥
+
+-- the refusal that an input is due of which a log is asked: it begins as a checkpoint, is no problem, or is longer than is
+-- read
+abbrev pub IsLogDue : List ℕ → Status → Type 0
+IsLogDue input (ended.Problem fault) = (length input ≤ 2 ^ 40) × IsNoProblem input fault
+IsLogDue input ended.NotProblem = (length input ≤ 2 ^ 40) × IsCheckpoint input
+IsLogDue input ended.TooLong = 2 ^ 40 < length input
+IsLogDue input status = ⊥
+
+-- the refusal that bytes are due of which an audit is asked: they have a fault, their first block is no problem, or they
+-- are more than are read
+abbrev pub IsAuditDue : List ℕ → Status → Type 0
+IsAuditDue input (ended.Audit fault) = (length input ≤ 2 ^ 40) × FirstAuditFault input fault
+IsAuditDue input (ended.Problem fault) = (length input ≤ 2 ^ 40) × HasNoProblem input fault
+IsAuditDue input ended.TooLong = 2 ^ 40 < length input
+IsAuditDue input status = ⊥

@@ -8,6 +8,8 @@ pub mod Texts
 pub mod Starts
 pub mod Streams
 pub mod Shards
+pub mod Logged
+pub mod Audited
 pub mod Endings
 pub mod Refused
 pub mod OneAnswer

@@ -9,6 +9,8 @@ use Rattle.cr_model.specs.declared.file_fault.Whose.{Whose}
 use Rattle.cr_model.specs.declared.file_fault.Whose.TheVariants as owner
 use Rattle.cr_model.specs.declared.file_fault.ProblemFault.{ProblemFault}
 use Rattle.cr_model.specs.declared.file_fault.ProblemFault.TheVariants as fault
+use Rattle.cr_audit.specs.declared.fault.AuditFault.{AuditFault}
+use Rattle.cr_audit.specs.declared.fault.AuditFault.TheVariants as audit
 use Rattle.cr_shard.specs.declared.fault.JoinFault.{JoinFault}
 use Rattle.cr_shard.specs.declared.fault.JoinFault.TheVariants as join
 use Rattle.cr_store.specs.declared.fault.CheckFault.{CheckFault}
@@ -117,6 +119,15 @@ join_words (join.OtherProblem body at) = codes "4 OtherProblem" ++ (number body 
 join_words (join.Overlap one other) = codes "5 Overlap" ++ (number one ++ number other)
 join_words join.NoMemory = codes "6 NoMemory"
 
+-- the number, the name and the details of why an audit does not say yes
+abbrev pub audit_words : AuditFault → List ℕ
+audit_words (audit.Form at) = codes "1 Form" ++ number at
+audit_words (audit.Line at) = codes "2 Line" ++ number at
+audit_words (audit.Node at) = codes "3 Node" ++ number at
+audit_words (audit.Verdict at) = codes "4 Verdict" ++ number at
+audit_words (audit.Book at) = codes "5 Book" ++ number at
+audit_words audit.NoMemory = codes "6 NoMemory"
+
 -- the program's name, the words, and a line feed
 abbrev pub line : List ℕ → List ℕ
 line words = codes "ringsearch: " ++ (words ++ (10 ∷ []))
@@ -134,3 +145,5 @@ note_line status.NoMemory = line (codes "no memory")
 note_line status.TooLong = line (codes "input too long")
 note_line (status.Trail fault) = line (codes "trail " ++ trail_words fault)
 note_line (status.Join fault) = line (codes "join " ++ join_words fault)
+note_line (status.Audit fault) = line (codes "audit " ++ audit_words fault)
+note_line status.NotProblem = line (codes "not a problem")

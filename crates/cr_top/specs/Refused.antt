@@ -1,13 +1,17 @@
 -- The parts of a search, and why each of them was not done.
 use Rattle.std.specs.Prelude.{◌≡◌, ℕ, ⊤, List, Option, None, Result, Ok, Err, Vec}
 use Rattle.std.specs.declared.alloc.Global.{Global}
+use Rattle.cr_audit.specs.declared.fault.AuditFault.{AuditFault}
+use Rattle.cr_audit.specs.declared.fault.AuditFault.TheVariants as audit
 use Rattle.cr_io.specs.declared.reading.ReadEnd.{ReadEnd}
 use Rattle.cr_io.specs.declared.reading.ReadEnd.TheVariants as end
 use Rattle.cr_explore.specs.Searches.{searched}
+use Rattle.cr_model.specs.Checkpoints.{IsCheckpoint}
 use Rattle.cr_shard.specs.JoinFaults.{FirstJoinFault}
 use Rattle.cr_shard.specs.declared.fault.JoinFault.{JoinFault}
 use Rattle.cr_shard.specs.declared.fault.JoinFault.TheVariants as fault
 use Rattle.cr_store.specs.Written.{lists}
+use Rattle.cr_top.specs.Audited.{FirstAuditFault, HasNoProblem}
 use Rattle.cr_top.specs.Streams.{Reading, Writing, WasRead, WasWritten, WasCutOff}
 use Rattle.cr_top.specs.Texts.{IsReached, IsTextOf, IsNoProblem, IsNoCheckpoint}
 use Rattle.cr_top.specs.Starts.{IsStart}
@@ -41,6 +45,25 @@ abbrev pub IsUnjoined : List ℕ → Refusal → Type 0
 IsUnjoined input (refusal.Join why) = FirstJoinFault input why
 IsUnjoined input refusal.NoMemory = ⊤
 IsUnjoined input why = ⊥
+
+-- the refusal of an audit that does not say yes
+abbrev pub audit_refusal : AuditFault → Refusal
+audit_refusal audit.NoMemory = refusal.NoMemory
+audit_refusal why = refusal.Audit why
+
+-- the input is no problem for this reason, or there was not enough memory
+abbrev pub IsUnlogged : List ℕ → Refusal → Type 0
+IsUnlogged input (refusal.Problem why) = IsNoProblem input why
+IsUnlogged input refusal.NotProblem = IsCheckpoint input
+IsUnlogged input refusal.NoMemory = ⊤
+IsUnlogged input why = ⊥
+
+-- an audit of the bytes does not say yes for this reason, or there was not enough memory
+abbrev pub IsUnaudited : List ℕ → Refusal → Type 0
+IsUnaudited input (refusal.Audit why) = FirstAuditFault input why
+IsUnaudited input (refusal.Problem why) = HasNoProblem input why
+IsUnaudited input refusal.NoMemory = ⊤
+IsUnaudited input why = ⊥
 
 -- the input was read whole, or it was not for this reason
 abbrev pub ReadsInput : {S : Type 0} → Reading S → Result (Vec ℕ Global) Refusal → Type 0

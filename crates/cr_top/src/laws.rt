@@ -2,6 +2,7 @@
 //! nothing.
 
 ghost use Rattle.std.specs.Prelude.{◌≡◌, [], ◌∷◌, ◌++◌, map, pos, negsuc, codes};
+ghost use Rattle.cr_audit.specs.declared.fault.AuditFault.TheVariants as audit;
 ghost use Rattle.cr_model.specs.declared.fault.CountAt.TheVariants as counted;
 ghost use Rattle.cr_model.specs.declared.notation.NotationFault.TheVariants as notation;
 ghost use Rattle.cr_model.specs.declared.file_fault.Whose.TheVariants as owner;
@@ -18,8 +19,8 @@ ghost use Rattle.cr_top.specs.Lines.{note_line};
 pub fn statuses_have_their_numbers()
     ensures { map code_of (ended.Finished ∷ ended.Words wrong.Line ∷ ended.Stopped 3 ∷ ended.Problem fault.NotToml
         ∷ ended.Checkpoint (check.Form 1) ∷ ended.ReadFault ∷ ended.WriteFault ∷ ended.NoMemory ∷ ended.TooLong
-        ∷ ended.Trail trail.Nothing ∷ ended.Join (join.Blocks 0) ∷ [])
-        ≡ 0 ∷ 2 ∷ 3 ∷ 4 ∷ 5 ∷ 6 ∷ 7 ∷ 8 ∷ 9 ∷ 10 ∷ 11 ∷ [] }
+        ∷ ended.Trail trail.Nothing ∷ ended.Join (join.Blocks 0) ∷ ended.Audit (audit.Node 5) ∷ ended.NotProblem ∷ [])
+        ≡ 0 ∷ 2 ∷ 3 ∷ 4 ∷ 5 ∷ 6 ∷ 7 ∷ 8 ∷ 9 ∷ 10 ∷ 11 ∷ 12 ∷ 13 ∷ [] }
 {}
 
 /// The line of each status, and none where the run finished.
@@ -40,6 +41,12 @@ pub fn statuses_have_their_lines()
     ensures trail { map (λ f. note_line (ended.Trail f)) (trail.Form 6 ∷ trail.Nothing ∷ [])
         ≡ codes "ringsearch: trail 1 Form 6\n" ∷ codes "ringsearch: trail 2 Nothing\n" ∷ [] }
     ensures join { note_line (ended.Join (join.Overlap 0 1)) ≡ codes "ringsearch: join 5 Overlap 0 1\n" }
+    ensures audit { map (λ f. note_line (ended.Audit f)) (audit.Form 117 ∷ audit.Line 1 ∷ audit.Node 5 ∷ audit.Verdict 5
+        ∷ audit.Book 0 ∷ audit.NoMemory ∷ [])
+        ≡ codes "ringsearch: audit 1 Form 117\n" ∷ codes "ringsearch: audit 2 Line 1\n"
+        ∷ codes "ringsearch: audit 3 Node 5\n" ∷ codes "ringsearch: audit 4 Verdict 5\n"
+        ∷ codes "ringsearch: audit 5 Book 0\n" ∷ codes "ringsearch: audit 6 NoMemory\n" ∷ [] }
+    ensures not_problem { note_line ended.NotProblem ≡ codes "ringsearch: not a problem\n" }
 {}
 
 /// The line of each fault of the command line.

@@ -5,9 +5,10 @@
 //! checkpoint, searches it by one worker or by several, and writes the book; or, where it was to stop after so many
 //! turns and something is left, a checkpoint to go on from. The words may also ask for a trail, a checkpoint after
 //! each so many turns; for the last whole checkpoint of what is left of one; for an input cut into shards, checkpoints
-//! that can be searched apart, and for these joined; or for the summary of a problem that is made of a number. Its
-//! contract is the theorem that docs/theorem.md tells. Nothing is written before the whole text is made, but a trail is
-//! written checkpoint by checkpoint.
+//! that can be searched apart, and for these joined; for a log of a whole search, with its problem and its book, and for
+//! the audit of such a book by its log; or for the summary of a problem that is made of a number. Its contract is the
+//! theorem that docs/theorem.md tells. Nothing is written before the whole text is made, but a trail is written checkpoint
+//! by checkpoint.
 //!
 //! - [`ringsearch`]: the whole program but its streams. Each status but `Finished` writes its line to the notes.
 //! - [`search_alone`], [`trail_alone`]: the search and the trail by one worker, who waits for nobody; they are proved to
@@ -33,10 +34,13 @@
 #![tactic(auto)]
 
 mod answers;
+pub mod audit_laws;
+mod auditing;
 mod boards;
 mod gate;
 mod last;
 pub mod laws;
+mod logging;
 mod making;
 mod notes;
 mod outcome;

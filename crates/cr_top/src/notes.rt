@@ -4,12 +4,13 @@ ghost use Rattle.std.specs.Prelude.{◌≡◌, ◌≤◌, ◌++◌, map, codes};
 ghost use Rattle.std.specs.Fmt.{decimal, signed_decimal};
 ghost use Rattle.cr_io.specs.Causes.{Rose};
 ghost use Rattle.cr_top.specs.Noted.{IsWritten, AppendsFront};
-ghost use Rattle.cr_top.specs.Lines.{shown, notation_words, fault_words, problem_words, check_words, trail_words, join_words, line, note_line};
+ghost use Rattle.cr_top.specs.Lines.{shown, notation_words, fault_words, problem_words, check_words, trail_words, join_words, audit_words, line, note_line};
 ghost use Rattle.cr_top.specs.Pieces.{piece_text, text_of};
 
 use crate::Status;
 use crate::piece::Piece;
 use crate::piece::Piece::*;
+use cr_audit::AuditFault;
 use cr_io::{Sink, WriteFault, write_whole};
 use cr_model::{CountAt, NotationFault, ProblemFault, Whose};
 use cr_shard::JoinFault;
@@ -314,6 +315,20 @@ fn write_trail<N: Sink>(notes: &mut N, fault: TrailFault) -> Result<(), WriteFau
     }
 }
 
+// Appends the line of why an audit does not say yes: its number, its name and its details.
+fn write_audit<N: Sink>(notes: &mut N, fault: AuditFault) -> Result<(), WriteFault>
+    ensures { IsWritten N.grew N.faults notes.old notes.new result (line (codes "audit " ++ audit_words fault)) }
+{
+    match fault {
+        AuditFault::Form(at) => write_line(notes, &[Text(b"audit 1 Form "), Number(at)]),
+        AuditFault::Line(at) => write_line(notes, &[Text(b"audit 2 Line "), Number(at)]),
+        AuditFault::Node(at) => write_line(notes, &[Text(b"audit 3 Node "), Number(at)]),
+        AuditFault::Verdict(at) => write_line(notes, &[Text(b"audit 4 Verdict "), Number(at)]),
+        AuditFault::Book(at) => write_line(notes, &[Text(b"audit 5 Book "), Number(at)]),
+        AuditFault::NoMemory => write_line(notes, &[Text(b"audit 6 NoMemory")]),
+    }
+}
+
 // Appends the line of a status, if the run did not finish.
 fn write_status<N: Sink>(notes: &mut N, status: &Status) -> Result<(), WriteFault>
     ensures written { IsWritten N.grew N.faults notes.old notes.new result (note_line status.now) }
@@ -334,6 +349,8 @@ fn write_status<N: Sink>(notes: &mut N, status: &Status) -> Result<(), WriteFaul
         Status::TooLong => write_line(notes, &[Text(b"input too long")]),
         Status::Trail(fault) => write_trail(notes, *fault),
         Status::Join(fault) => write_join(notes, fault),
+        Status::Audit(fault) => write_audit(notes, *fault),
+        Status::NotProblem => write_line(notes, &[Text(b"not a problem")]),
     }
 }
 

@@ -2,9 +2,10 @@
 
 ghost use Rattle.std.specs.Prelude.{◌≡◌};
 ghost use Rattle.cr_top.specs.Endings.{status_of};
-ghost use Rattle.cr_top.specs.Refused.{join_refusal, trail_result};
+ghost use Rattle.cr_top.specs.Refused.{audit_refusal, join_refusal, trail_result};
 
 use crate::Status;
+use cr_audit::AuditFault;
 use cr_io::{ReadEnd, WriteFault};
 use cr_model::ProblemFault;
 use cr_row::NoMemory;
@@ -25,6 +26,8 @@ pub enum Refusal {
     TooLong,
     Trail(TrailFault),
     Join(JoinFault),
+    Audit(AuditFault),
+    NotProblem,
 }
 
 impl From<NoMemory> for Refusal {
@@ -91,6 +94,8 @@ pub fn status_for(outcome: Result<Option<u64>, Refusal>) -> Status
         Err(Refusal::TooLong) => Status::TooLong,
         Err(Refusal::Trail(fault)) => Status::Trail(fault),
         Err(Refusal::Join(fault)) => Status::Join(fault),
+        Err(Refusal::Audit(fault)) => Status::Audit(fault),
+        Err(Refusal::NotProblem) => Status::NotProblem,
     }
 }
 
@@ -112,5 +117,15 @@ pub fn refusal_for(fault: JoinFault) -> Refusal
     match fault {
         JoinFault::NoMemory => Refusal::NoMemory,
         _ => Refusal::Join(fault),
+    }
+}
+
+/// The refusal of an audit that does not say yes for this reason.
+pub fn audit_refusal_for(fault: AuditFault) -> Refusal
+    ensures { result ≡ audit_refusal fault }
+{
+    match fault {
+        AuditFault::NoMemory => Refusal::NoMemory,
+        _ => Refusal::Audit(fault),
     }
 }

@@ -3,6 +3,7 @@
 ghost use Rattle.std.specs.Prelude.{◌≡◌};
 ghost use Rattle.cr_top.specs.Codes.{code_of};
 
+use cr_audit::AuditFault;
 use cr_model::ProblemFault;
 use cr_shard::JoinFault;
 use cr_store::CheckFault;
@@ -12,8 +13,8 @@ use cr_words::WordsFault;
 /// How a call of the program ended.
 #[derive(Debug, Drop)]
 pub enum Status {
-    /// The book, the summary of a made problem, the trail, its last checkpoint, the shards of an input or these joined were
-    /// written whole.
+    /// The book, the summary of a made problem, the trail, its last checkpoint, the shards of an input, these joined, the log
+    /// of a whole search or the line of an audit that says yes were written whole.
     Finished,
     /// The words of the command line are not accepted: the first that is wrong.
     Words(WordsFault),
@@ -35,6 +36,10 @@ pub enum Status {
     Trail(TrailFault),
     /// The input can't be joined: the first check of its blocks that does not hold.
     Join(JoinFault),
+    /// The audit does not say yes: the first check of the log and the book that does not hold.
+    Audit(AuditFault),
+    /// A log was asked for, and the input begins as a checkpoint.
+    NotProblem,
 }
 
 impl Status {
@@ -54,6 +59,8 @@ impl Status {
             Status::TooLong => 9,
             Status::Trail(_) => 10,
             Status::Join(_) => 11,
+            Status::Audit(_) => 12,
+            Status::NotProblem => 13,
         }
     }
 }

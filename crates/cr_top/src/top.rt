@@ -3,6 +3,8 @@
 ghost use Rattle.std.specs.Prelude.{◌≡◌, ℕ, ◌^◌, ◌<◌, ◌≤◌, ◌⊎◌, Option, Some, List, length, Ok};
 ghost use Rattle.cr_io.specs.Causes.{Rose};
 ghost use Rattle.cr_model.specs.Problems.{ProblemParts};
+ghost use Rattle.cr_model.specs.Checkpoints.{IsCheckpoint};
+ghost use Rattle.cr_model.specs.ProblemFiles.{ProblemFile};
 ghost use Rattle.cr_model.specs.Sizes.{most_rows, size_of_all};
 ghost use Rattle.cr_model.specs.Inputs.{Input};
 ghost use Rattle.cr_shard.specs.JoinFaults.{IsJoin};
@@ -10,15 +12,19 @@ ghost use Rattle.cr_trail.specs.Lasts.{IsLast};
 ghost use Rattle.cr_words.specs.Commands.{texts_of};
 ghost use Rattle.cr_words.specs.Readings.{IsAccepted, IsWordsFaultOf};
 ghost use Rattle.cr_trail.specs.Runs.{KeepsTo};
+ghost use Rattle.cr_top.specs.Audited.{IsAuditOf};
 ghost use Rattle.cr_top.specs.Lines.{note_line};
 ghost use Rattle.cr_top.specs.Noted.{AppendsFront};
-ghost use Rattle.cr_top.specs.Endings.{AsksSearch, AsksMake, AsksTrail, AsksLast, AsksCut, AsksJoin, EndsMake, EndsWish, Ends};
-ghost use Rattle.cr_top.specs.Endings.{HasTurns, HasShards, IsDue, IsLastDue, IsJoinDue, status_of};
+ghost use Rattle.cr_top.specs.Endings.{AsksSearch, AsksMake, AsksTrail, AsksLast, AsksCut, AsksJoin, AsksLog, AsksAudit, EndsMake, EndsWish, Ends};
+ghost use Rattle.cr_top.specs.Endings.{HasTurns, HasShards, IsDue, IsLastDue, IsJoinDue, IsLogDue, IsAuditDue, status_of};
 
 use crate::Status;
 use crate::answers::inputs_have_one_answer;
+use crate::audit_laws::texts_have_one_audit;
+use crate::auditing::audit_written;
 use crate::gate::Gate;
 use crate::last::last_written;
+use crate::logging::log_written;
 use crate::making::summary_for;
 use crate::notes::write_note;
 use crate::refusal::{Refusal, status_for};
@@ -26,6 +32,7 @@ use crate::search::{search_alone, searched_together};
 use crate::sharding::{cut_written, join_written};
 use crate::trailing::{trail_alone, trailed_together};
 use cr_io::{Sink, Source, write_whole};
+use cr_read::bytes_have_one_answer;
 use cr_shard::laws::texts_have_one_answer;
 use cr_trail::last_laws::each_text_has_one_last_block;
 use cr_words::laws::{words_are_accepted_or_have_a_fault, words_read_as_one_wish};
@@ -36,7 +43,8 @@ use std::thread::Threads;
 /// Does all that the program does: reads an input from the source, searches it, and writes its book or, after the turns
 /// that are allowed, a checkpoint to the sink, or a trail of checkpoints; or writes the last whole checkpoint of what is
 /// left of a trail; or cuts an input into shards, which are checkpoints that can be searched apart, or joins such; or
-/// makes a problem of a number and writes its summary.
+/// writes a problem with its book and a log of its whole search, or audits such a book by its log; or makes a problem of a
+/// number and writes its summary.
 ///
 /// Nothing is written before the whole text is made, but that of a trail is written block by block. Each status but
 /// `Finished` writes its line to the notes; a fault of theirs ends the line and changes no status. Each exploration of an
@@ -108,6 +116,24 @@ pub fn ringsearch<
         (input : List ℕ) → S.left source.old ≡ Some input → (due : Status) → IsJoinDue input due →
         (Rose (S.faults source.old) (S.faults source.new) → ⊥) →
         (result ≡ due) ⊎ (result ≡ Status.NoMemory) }
+    ensures logs { AsksLog (texts_of words.now) → (input : List ℕ) (p : ProblemParts) →
+        S.left source.old ≡ Some input → length input ≤ 2 ^ 40 → (IsCheckpoint input → ⊥) → ProblemFile input p →
+        (Rose (S.faults source.old) (S.faults source.new) → ⊥) →
+        (Rose (K.faults sink.old) (K.faults sink.new) → ⊥) →
+        (result ≡ Status.Finished) ⊎ (result ≡ Status.NoMemory) }
+    ensures refuses_log { AsksLog (texts_of words.now) →
+        (input : List ℕ) → S.left source.old ≡ Some input → (due : Status) → IsLogDue input due →
+        (Rose (S.faults source.old) (S.faults source.new) → ⊥) →
+        (result ≡ due) ⊎ (result ≡ Status.NoMemory) }
+    ensures audits { AsksAudit (texts_of words.now) → (input : List ℕ) (number : ℕ) →
+        S.left source.old ≡ Some input → length input ≤ 2 ^ 40 → IsAuditOf input number →
+        (Rose (S.faults source.old) (S.faults source.new) → ⊥) →
+        (Rose (K.faults sink.old) (K.faults sink.new) → ⊥) →
+        (result ≡ Status.Finished) ⊎ (result ≡ Status.NoMemory) }
+    ensures refuses_audit { AsksAudit (texts_of words.now) →
+        (input : List ℕ) → S.left source.old ≡ Some input → (due : Status) → IsAuditDue input due →
+        (Rose (S.faults source.old) (S.faults source.new) → ⊥) →
+        (result ≡ due) ⊎ (result ≡ Status.NoMemory) }
     ensures makes { (number : ℕ) → AsksMake (texts_of words.now) number →
         (Rose (K.faults sink.old) (K.faults sink.new) → ⊥) →
         (result ≡ Status.Finished) ⊎ (result ≡ Status.NoMemory) }
@@ -124,6 +150,8 @@ pub fn ringsearch<
     inputs_have_one_answer();
     each_text_has_one_last_block();
     texts_have_one_answer();
+    bytes_have_one_answer();
+    texts_have_one_audit();
     let status = ended(rt, words, source, sink, gate);
     write_note(notes, &status);
     status
@@ -190,6 +218,8 @@ fn carried_out<R: AllocGlobal + Threads + Wait + Sync, S: Source, K: Sink, G: Ga
         Mode::Last => status_for(last_written(rt.alloc(), source, sink)),
         Mode::Cut(into) => status_for(cut_written(rt.alloc(), into, source, sink)),
         Mode::Join => status_for(join_written(rt.alloc(), source, sink)),
+        Mode::Log => status_for(log_written(rt.alloc(), source, sink)),
+        Mode::Audit => status_for(audit_written(rt.alloc(), source, sink)),
     }
 }
 

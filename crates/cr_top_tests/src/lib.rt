@@ -4,6 +4,8 @@
 #[cfg(test)]
 mod alone_tests;
 #[cfg(test)]
+mod audit_tests;
+#[cfg(test)]
 mod checkpoints;
 #[cfg(test)]
 mod desk_tests;

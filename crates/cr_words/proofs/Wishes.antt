@@ -10,7 +10,7 @@ use Rattle.cr_words.specs.declared.table.Kind.{Kind}
 use Rattle.cr_words.specs.declared.table.Kind.TheVariants as kind
 use Rattle.cr_words.specs.declared.wish.Wish.{Wish}
 use Rattle.cr_words.specs.declared.wish.Mode.{Mode}
-use Rattle.cr_words.specs.declared.wish.Mode.TheVariants.{Make, Last, Cut, Join}
+use Rattle.cr_words.specs.declared.wish.Mode.TheVariants.{Make, Last, Cut, Join, Log, Audit}
 
 same_some : {X : Type 0} (x y : X) → Some x ≡ Some y → x ≡ y
 same_some x y e = ap (λ o. unwrap_or o x) e
@@ -41,6 +41,8 @@ some_mode a k h m is each many kind.Make = (Make k, ap (option_map Make) is)
 some_mode a k h m is each many kind.Last = (Last, refl)
 some_mode a k h m is each many kind.Cut = (Cut m, ap (option_map Cut) many)
 some_mode a k h m is each many kind.Join = (Join, refl)
+some_mode a k h m is each many kind.Log = (Log, refl)
+some_mode a k h m is each many kind.Audit = (Audit, refl)
 
 pub of_task : (a : Assigned) (task : Task) (mode : Mode) → task_of a ≡ Some task → mode_for a task.kind ≡ Some mode
     → option_and_then (λ task. mode_for a task.kind) (task_of a) ≡ Some mode

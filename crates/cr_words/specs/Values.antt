@@ -10,7 +10,7 @@ use Rattle.cr_words.specs.declared.table.Kind.{Kind}
 use Rattle.cr_words.specs.declared.table.Kind.TheVariants as kind
 use Rattle.cr_words.specs.declared.wish.Wish.{Wish}
 use Rattle.cr_words.specs.declared.wish.Mode.{Mode}
-use Rattle.cr_words.specs.declared.wish.Mode.TheVariants.{Search, Make, Trail, Last, Cut, Join}
+use Rattle.cr_words.specs.declared.wish.Mode.TheVariants.{Search, Make, Trail, Last, Cut, Join, Log, Audit}
 
 -- an option beside `--do`, and its value where it is not given
 pub record Choice : Type 0 where
@@ -39,6 +39,8 @@ tasks =
     ∷ record { name = codes "last"; kind = kind.Last; uses = [] }
     ∷ record { name = codes "cut"; kind = kind.Cut; uses = codes "into" ∷ [] }
     ∷ record { name = codes "join"; kind = kind.Join; uses = [] }
+    ∷ record { name = codes "log"; kind = kind.Log; uses = [] }
+    ∷ record { name = codes "audit"; kind = kind.Audit; uses = [] }
     ∷ []
 
 -- what is assigned to each option, by its name: its value, which is its default where it was not given, and whether it
@@ -92,6 +94,8 @@ mode_for a kind.Make = option_map Make (number_for a)
 mode_for a kind.Last = Some Last
 mode_for a kind.Cut = option_map Cut (into_of a)
 mode_for a kind.Join = Some Join
+mode_for a kind.Log = Some Log
+mode_for a kind.Audit = Some Audit
 
 abbrev pub mode_of : Assigned → Option Mode
 mode_of a = option_and_then (λ task. mode_for a task.kind) (task_of a)

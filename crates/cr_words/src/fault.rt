@@ -18,8 +18,8 @@ pub enum WordsFault {
     /// The number of a made problem is not a number from 0 to 2^32 - 1.
     #[error("--number is not a number from 0 to 4294967295")]
     Number,
-    /// What is to be done is none of `search`, `make`, `last`, `cut` and `join`.
-    #[error("--do is none of search, make, last, cut and join")]
+    /// What is to be done is none of `search`, `make`, `last`, `cut`, `join`, `log` and `audit`.
+    #[error("--do is none of search, make, last, cut, join, log and audit")]
     Mode,
     /// An option was given that has no use in what is to be done, or both `--turns` and `--every` were.
     #[error("an option has no use in what --do names, or --turns and --every are both given")]

@@ -34,13 +34,15 @@ pub fn lines_are_taken_or_not()
         ∷ codes "--turns 5" ∷ codes "--workers=" ∷ codes "--workers " ∷ codes "--do find" ∷ codes "--turns=-1"
         ∷ (codes "--number " ++ accent) ∷ codes "--" ∷ codes "--do make --number 7 --workers 64"
         ∷ codes "--every 3" ∷ codes "--every=" ∷ codes "--do last --every 3 --turns 5" ∷ codes "--into 3"
-        ∷ codes "--into=" ∷ codes "--do cut --into=2" ∷ codes "--do join --into 2" ∷ []) ≡ true }
+        ∷ codes "--into=" ∷ codes "--do cut --into=2" ∷ codes "--do join --into 2" ∷ codes "--do log"
+        ∷ codes "--do=audit" ∷ codes "--do audit --workers 2" ∷ []) ≡ true }
     ensures not_taken { list_all (λ text. not (is_line_taken text)) (codes "--bells" ∷ codes "--workers"
         ∷ codes "--workers --turns" ∷ codes "--turns 1 --turns 2" ∷ codes "--do=make --do=make" ∷ codes "--turns -1"
         ∷ codes "--work 3" ∷ codes "find" ∷ codes "" ∷ accent ∷ codes "-- 5" ∷ codes "-t 5" ∷ codes "--help"
         ∷ codes "-h" ∷ codes "--version" ∷ codes "help" ∷ codes "--workers 3 " ∷ codes "--every"
         ∷ codes "--every 1 --every 1" ∷ codes "--every -1" ∷ codes "last" ∷ codes "--into"
-        ∷ codes "--into 2 --into 2" ∷ codes "--into -1" ∷ codes "join" ∷ []) ≡ true }
+        ∷ codes "--into 2 --into 2" ∷ codes "--into -1" ∷ codes "join"
+        ∷ codes "log" ∷ codes "--audit" ∷ []) ≡ true }
 {}
 
 /// Lines and their wishes, at the edges of the numbers. Leading zeros are taken.
@@ -74,6 +76,10 @@ pub fn lines_read_as_wishes()
         (record { workers = 1; turns = None; mode = mode.Cut 1024 }) }
     ensures join { ReadsAs (line (codes "--do join"))
         (record { workers = 1; turns = None; mode = mode.Join }) }
+    ensures log { ReadsAs (line (codes "--do log"))
+        (record { workers = 1; turns = None; mode = mode.Log }) }
+    ensures audit { ReadsAs (line (codes "--do=audit"))
+        (record { workers = 1; turns = None; mode = mode.Audit }) }
     ensures lone { ReadsAs (line (codes "--")) (record { workers = 1; turns = None; mode = mode.Search }) }
 {}
 
@@ -87,8 +93,9 @@ pub fn lines_have_faults()
         ∷ codes "--turns=" ∷ (codes "--turns " ++ accent) ∷ [])
         ≡ (fault.Turns ∷ []) ∷ (fault.Turns ∷ []) ∷ (fault.Turns ∷ []) ∷ (fault.Turns ∷ []) ∷ [] }
     ensures modes { map line_faults (codes "--do find" ∷ codes "--do=" ∷ codes "--do Search"
-        ∷ codes "--do find --number 1" ∷ [])
-        ≡ (fault.Mode ∷ []) ∷ (fault.Mode ∷ []) ∷ (fault.Mode ∷ []) ∷ (fault.Mode ∷ []) ∷ [] }
+        ∷ codes "--do find --number 1" ∷ codes "--do logs" ∷ codes "--do Audit" ∷ [])
+        ≡ (fault.Mode ∷ []) ∷ (fault.Mode ∷ []) ∷ (fault.Mode ∷ []) ∷ (fault.Mode ∷ []) ∷ (fault.Mode ∷ [])
+        ∷ (fault.Mode ∷ []) ∷ [] }
     ensures every { map line_faults (codes "--every 0" ∷ codes "--every 9223372036854775808" ∷ codes "--every="
         ∷ codes "--every +5" ∷ [])
         ≡ (fault.Every ∷ []) ∷ (fault.Every ∷ []) ∷ (fault.Every ∷ []) ∷ (fault.Every ∷ []) ∷ [] }
@@ -113,6 +120,12 @@ pub fn lines_have_faults()
         ≡ (fault.Mixed ∷ []) ∷ (fault.Mixed ∷ []) ∷ (fault.Mixed ∷ []) ∷ (fault.Mixed ∷ []) ∷ [] ∷ [] ∷ [] }
     ensures join { map line_faults (codes "--do join --workers 1" ∷ codes "--do join --turns 1"
         ∷ codes "--do join --every 1" ∷ codes "--do join --number 1" ∷ codes "--do join --into 1" ∷ codes "--do join" ∷ [])
+        ≡ (fault.Mixed ∷ []) ∷ (fault.Mixed ∷ []) ∷ (fault.Mixed ∷ []) ∷ (fault.Mixed ∷ []) ∷ (fault.Mixed ∷ []) ∷ [] ∷ [] }
+    ensures log { map line_faults (codes "--do log --workers 1" ∷ codes "--do log --turns 1"
+        ∷ codes "--do log --every 1" ∷ codes "--do log --number 1" ∷ codes "--do log --into 1" ∷ codes "--do log" ∷ [])
+        ≡ (fault.Mixed ∷ []) ∷ (fault.Mixed ∷ []) ∷ (fault.Mixed ∷ []) ∷ (fault.Mixed ∷ []) ∷ (fault.Mixed ∷ []) ∷ [] ∷ [] }
+    ensures audit { map line_faults (codes "--do audit --workers 1" ∷ codes "--do audit --turns 1"
+        ∷ codes "--do audit --every 1" ∷ codes "--do audit --number 1" ∷ codes "--do audit --into 1" ∷ codes "--do audit" ∷ [])
         ≡ (fault.Mixed ∷ []) ∷ (fault.Mixed ∷ []) ∷ (fault.Mixed ∷ []) ∷ (fault.Mixed ∷ []) ∷ (fault.Mixed ∷ []) ∷ [] ∷ [] }
     ensures not_cut { map line_faults (codes "--into 1" ∷ codes "--do search --into 2" ∷ codes "--do make --into 2"
         ∷ codes "--do last --into 2" ∷ [])

@@ -44,6 +44,8 @@ pub enum Kind {
     Last,
     Cut,
     Join,
+    Log,
+    Audit,
 }
 
 // The mode of a search, with a trail where it is said after how many turns each checkpoint comes.
@@ -68,6 +70,8 @@ impl Kind {
             Kind::Last => Mode::Last,
             Kind::Cut => Mode::Cut(into),
             Kind::Join => Mode::Join,
+            Kind::Log => Mode::Log,
+            Kind::Audit => Mode::Audit,
         }
     }
 }
@@ -105,6 +109,16 @@ pub const TASKS: &[Task] = &[
     Task {
         name: "join",
         kind: Kind::Join,
+        uses: &[],
+    },
+    Task {
+        name: "log",
+        kind: Kind::Log,
+        uses: &[],
+    },
+    Task {
+        name: "audit",
+        kind: Kind::Audit,
         uses: &[],
     },
 ];

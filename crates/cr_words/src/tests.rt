@@ -56,6 +56,8 @@ const TAKEN: &[Taken] = &[
     Taken("--into=0002 --do=cut", 1, None, Mode::Cut(2)),
     Taken("--do cut --into 1024", 1, None, Mode::Cut(1024)),
     Taken("--do join", 1, None, Mode::Join),
+    Taken("--do log", 1, None, Mode::Log),
+    Taken("--do=audit", 1, None, Mode::Audit),
 ];
 
 // A line and its fault.
@@ -134,6 +136,20 @@ const REFUSED: &[Refused] = &[
     Refused("--do join --turns 1", WordsFault::Mixed),
     Refused("--do join --every 1", WordsFault::Mixed),
     Refused("--do join --number 0", WordsFault::Mixed),
+    Refused("--do logs", WordsFault::Mode),
+    Refused("--audit", WordsFault::Line),
+    Refused("--do log --workers 1", WordsFault::Mixed),
+    Refused("--do log --turns 1", WordsFault::Mixed),
+    Refused("--do log --every 1", WordsFault::Mixed),
+    Refused("--do log --number 0", WordsFault::Mixed),
+    Refused("--do log --into 1", WordsFault::Mixed),
+    Refused("--do log --every 0", WordsFault::Every),
+    Refused("--do audit --workers 1", WordsFault::Mixed),
+    Refused("--do audit --turns 1", WordsFault::Mixed),
+    Refused("--do audit --every 1", WordsFault::Mixed),
+    Refused("--do audit --number 0", WordsFault::Mixed),
+    Refused("--do audit --into 1", WordsFault::Mixed),
+    Refused("--do audit --into 1025", WordsFault::Into),
 ];
 
 #[test]

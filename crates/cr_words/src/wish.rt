@@ -16,6 +16,10 @@ pub enum Mode {
     Cut(u32),
     /// Read such checkpoints, and write them as one.
     Join,
+    /// Read a problem from the source and search it, and write the problem, its book and a log of the whole search.
+    Log,
+    /// Read what such a search wrote, and tell whether the log proves the book.
+    Audit,
 }
 
 /// What the words wish for.

@@ -1,10 +1,12 @@
 use Rattle.std.proofs.Common.{Some, refl}
 use Rattle.cr_words.specs.Commands.{texts_of}
-use Rattle.cr_top.proofs.Wishing.{refused, as_search, as_make, as_trail, as_last, as_cut, as_join}
+use Rattle.cr_top.proofs.Wishing.{refused, as_search, as_make, as_trail, as_last, as_cut, as_join, as_log, as_audit}
 use Rattle.cr_top.proofs.Completeness.{made, ends_finished, ends_stopped, ends_refused}
 use Rattle.cr_top.proofs.TrailAnswers.{trail_finished, trail_refused}
 use Rattle.cr_top.proofs.LastAnswers.{last_finished, last_refused}
 use Rattle.cr_top.proofs.ShardAnswers.{cut_finished, cut_refused, join_finished, join_refused}
+use Rattle.cr_top.proofs.LogAnswers.{log_finished, log_refused}
+use Rattle.cr_top.proofs.AuditAnswers.{audit_finished, audit_refused}
 use Rattle.cr_top.proofs.top.ringsearch.Goals as goal
 
 pub returns-clause-refuses_words : goal.returns-clause-refuses_words
@@ -103,4 +105,52 @@ returns-clause-refuses_join g c = λ asks input told due is reads.
     (texts_of c.args.words.now) c.ended-status.result asks c.ended-status.ensures.ends)
     (λ taken took. g.met.S.Source.shows _ _ taken took)
     (record { one_fault = c.texts_have_one_answer.ensures.one_fault; never_both = c.texts_have_one_answer.ensures.never_both })
+    input told reads due is
+
+pub returns-clause-logs : goal.returns-clause-logs
+returns-clause-logs g c = λ asks input p told short begins file reads writes.
+    log_finished _ _ c.ended-status.result
+    (as_log _ _ c.words_read_as_one_wish.ensures c.words_are_accepted_or_have_a_fault.ensures.apart
+    (texts_of c.args.words.now) c.ended-status.result asks c.ended-status.ensures.ends)
+    (λ taken took. g.met.S.Source.shows _ _ taken took)
+    (record { one_fault = c.bytes_have_one_answer.ensures.one_fault; never_both = c.bytes_have_one_answer.ensures.never_both })
+    input told reads p short begins file writes
+
+pub returns-clause-refuses_log : goal.returns-clause-refuses_log
+returns-clause-refuses_log g c = λ asks input told due is reads.
+    log_refused _ _ c.ended-status.result
+    (as_log _ _ c.words_read_as_one_wish.ensures c.words_are_accepted_or_have_a_fault.ensures.apart
+    (texts_of c.args.words.now) c.ended-status.result asks c.ended-status.ensures.ends)
+    (λ taken took. g.met.S.Source.shows _ _ taken took)
+    (record { one_fault = c.bytes_have_one_answer.ensures.one_fault; never_both = c.bytes_have_one_answer.ensures.never_both })
+    input told reads due is
+
+pub returns-clause-audits : goal.returns-clause-audits
+returns-clause-audits g c = λ asks input number told short is reads writes.
+    audit_finished _ _ c.ended-status.result
+    (as_audit _ _ c.words_read_as_one_wish.ensures c.words_are_accepted_or_have_a_fault.ensures.apart
+    (texts_of c.args.words.now) c.ended-status.result asks c.ended-status.ensures.ends)
+    (λ taken took. g.met.S.Source.shows _ _ taken took)
+    (record {
+      one_fault = c.texts_have_one_audit.ensures.one_fault;
+      one_problem = c.texts_have_one_audit.ensures.one_problem;
+      no_fault = c.texts_have_one_audit.ensures.no_fault;
+      a_problem = c.texts_have_one_audit.ensures.a_problem;
+      never_both = c.texts_have_one_audit.ensures.never_both;
+    })
+    input told reads number short is writes
+
+pub returns-clause-refuses_audit : goal.returns-clause-refuses_audit
+returns-clause-refuses_audit g c = λ asks input told due is reads.
+    audit_refused _ _ c.ended-status.result
+    (as_audit _ _ c.words_read_as_one_wish.ensures c.words_are_accepted_or_have_a_fault.ensures.apart
+    (texts_of c.args.words.now) c.ended-status.result asks c.ended-status.ensures.ends)
+    (λ taken took. g.met.S.Source.shows _ _ taken took)
+    (record {
+      one_fault = c.texts_have_one_audit.ensures.one_fault;
+      one_problem = c.texts_have_one_audit.ensures.one_problem;
+      no_fault = c.texts_have_one_audit.ensures.no_fault;
+      a_problem = c.texts_have_one_audit.ensures.a_problem;
+      never_both = c.texts_have_one_audit.ensures.never_both;
+    })
     input told reads due is

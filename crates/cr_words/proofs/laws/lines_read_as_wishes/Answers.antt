@@ -23,5 +23,7 @@ returns c = record {
   cut_into = record { has_workers = refl; has_turns = refl; has_mode = refl; right = refl };
   most_into = record { has_workers = refl; has_turns = refl; has_mode = refl; right = refl };
   join = record { has_workers = refl; has_turns = refl; has_mode = refl; right = refl };
+  log = record { has_workers = refl; has_turns = refl; has_mode = refl; right = refl };
+  audit = record { has_workers = refl; has_turns = refl; has_mode = refl; right = refl };
   lone = record { has_workers = refl; has_turns = refl; has_mode = refl; right = refl };
 }

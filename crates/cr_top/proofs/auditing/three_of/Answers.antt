@@ -1,0 +1,7 @@
+use Rattle.std.proofs.Common.{[]}
+use Rattle.cr_shard.proofs.BodyReads.{read_nothing}
+use Rattle.cr_top.proofs.auditing.three_of.Goals as goal
+
+pub returns : goal.returns
+returns c = c.in_ok-end_from.ensures.read _ (c.in_ok-log.ensures.read _ (c.in_ok-book.ensures.read _
+    (c.in_ok-bytes.ensures.read [] (read_nothing c.args.text.now))))
