@@ -1,6 +1,6 @@
 -- Reading three blocks, one after another, and what an audit of them answers.
-use Rattle.std.proofs.Common.{◌≡◌, ℕ, ◌+◌, ◌<◌, ◌≤◌, List, [], ◌∷◌, ◌++◌, length, take, drop, Option, Result, Ok, Err, refl, sym, ap, ◌∙◌, subst, arith, length-append, append_assoc}
-use Rattle.std.specs.Prelude.{codes, IsErrAnd}
+use Rattle.std.proofs.Common.{◌≡◌, ℕ, ◌+◌, ◌<◌, ◌≤◌, ◌⊎◌, inl, inr, List, [], ◌∷◌, ◌++◌, length, take, drop, Option, Result, Ok, Err, refl, sym, ap, ◌∙◌, subst, arith, length-append, append_assoc}
+use Rattle.std.specs.Prelude.{codes, IsErrAnd, MatchResult}
 use Rattle.std.proofs.lemmas.List.{length-drop}
 use Rattle.cr_audit.specs.Audits.{IsAuditFault, Audits}
 use Rattle.cr_audit.specs.declared.fault.AuditFault.{AuditFault}
@@ -47,6 +47,34 @@ told_wrong text at bodies read last here asked place wrong = record {
   };
   wrong = subst (λ n. IsWrongPlace (length bodies) n (length text) last place) read.at_is wrong;
 }
+
+-- fewer than three blocks were read, and the text is over there, or within the next block
+pub over_early : (text : List ℕ) (at : ℕ) (bodies : List (List ℕ)) → IsReadTo text at bodies → length bodies ≤ 2
+    → (IsNext text at next.End ⊎ IsNext text at next.Torn) → NotThree text (length text)
+over_early text at bodies read few (inl ended) =
+    told_wrong text at bodies read next.End ended (omega (arith, few)) (length text) (omega (arith, few), refl)
+over_early text at bodies read few (inr torn) = told_wrong text at bodies read next.Torn torn (omega (arith, few)) (length text) refl
+
+-- behind three blocks at most the text is over within the next one
+pub torn_behind : (text : List ℕ) (at : ℕ) (bodies : List (List ℕ)) → IsReadTo text at bodies → length bodies ≤ 3
+    → IsNext text at next.Torn → NotThree text (length text)
+torn_behind text at bodies read few torn = told_wrong text at bodies read next.Torn torn few (length text) refl
+
+-- or has a byte that cannot be
+pub wrong_behind : (text : List ℕ) (at : ℕ) (bodies : List (List ℕ)) → IsReadTo text at bodies → length bodies ≤ 3
+    → (place : ℕ) → IsNext text at (next.Form place) → NotThree text place
+wrong_behind text at bodies read few place wrong = told_wrong text at bodies read (next.Form place) wrong few place refl
+
+-- a fourth block
+pub fourth_behind : (text : List ℕ) (at : ℕ) (bodies : List (List ℕ)) → IsReadTo text at bodies → length bodies ≡ 3
+    → (place size : ℕ) → IsNext text at (next.Block place size) → NotThree text at
+fourth_behind text at bodies read three place size one = told_wrong text at bodies read (next.Block place size) one three at refl
+
+-- a place that tells that a text is not three blocks, as what reads it answers
+pub told_as : {A : Type 0} (Right : A → Type 0) (text : List ℕ) (place : ℕ) → NotThree text place → (result : Result A ℕ)
+    → IsErrAnd result (λ told. told ≡ place) → MatchResult result Right (NotThree text)
+told_as Right text place not (Ok right) is = absurd is
+told_as Right text place not (Err told) is = subst (NotThree text) (sym is) not
 
 -- an answer of an audit on three blocks is one on their text
 pub has_answer : (text bytes book log : List ℕ) (p : ProblemParts) (answer : Result ℕ AuditFault) → AreBodies text (bytes ∷ book ∷ log ∷ [])

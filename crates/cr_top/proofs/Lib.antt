@@ -17,6 +17,7 @@ pub mod Noting
 pub mod ToldAnswers
 pub mod LogParts
 pub mod LogAnswers
+pub mod OneLog
 pub mod AuditReads
 pub mod AuditBlocks
 pub mod OneAudit

@@ -8,6 +8,7 @@ use Rattle.toml.specs.Data.{Members}
 use Rattle.toml.specs.Parse.{parse_document}
 use Rattle.toml.proofs.OnLiterals.{toml_on_literals}
 use Rattle.cr_audit.specs.Logs.{LineParts, Proves, AreDue, line_text, log_text, verdict_text}
+use Rattle.cr_log.specs.FirstVerdicts.{IsFirstLog}
 use Rattle.cr_model.specs.Problems.{ProblemParts}
 use Rattle.cr_model.specs.Callings.{HasSteps}
 use Rattle.cr_model.specs.Books.{IsBook, book_text, book_line}
@@ -87,17 +88,18 @@ three_are a b c text first second third is = record {
 }
 
 -- what was logged, by its parts
-pub is_logged : (bytes text second third : List ℕ) (p : ProblemParts) (book : List (List ℕ)) (log : List ℕ) → (IsCheckpoint bytes → ⊥)
-    → ProblemFile bytes p → IsBook p [] ([] ∷ []) book → Proves p log book → second ≡ book_text p book → third ≡ log
-    → AreBodies text (bytes ∷ second ∷ third ∷ []) → IsLogOf bytes text
-is_logged bytes text second third p book log begins file is_book proved second_is third_is are = record {
+pub is_logged : (bytes text second third : List ℕ) (p : ProblemParts) (book : List (List ℕ)) (lines : List LineParts) → (IsCheckpoint bytes → ⊥)
+    → ProblemFile bytes p → IsBook p [] ([] ∷ []) book → IsFirstLog p lines → Proves p (log_text p lines) book
+    → second ≡ book_text p book → third ≡ log_text p lines → AreBodies text (bytes ∷ second ∷ third ∷ []) → IsLogOf bytes text
+is_logged bytes text second third p book lines begins file is_book first proved second_is third_is are = record {
   begins = begins;
   p = p;
   file = file;
   book = book;
   is_book = is_book;
-  log = log;
+  lines = lines;
+  first = first;
   proved = proved;
-  are = subst (λ (t : List ℕ). AreBodies text (bytes ∷ t ∷ log ∷ [])) second_is
+  are = subst (λ (t : List ℕ). AreBodies text (bytes ∷ t ∷ log_text p lines ∷ [])) second_is
       (subst (λ (t : List ℕ). AreBodies text (bytes ∷ second ∷ t ∷ [])) third_is are);
 }

@@ -6,7 +6,8 @@ ghost use Rattle.cr_model.specs.declared.file_fault.ProblemFault.{ProblemFault};
 ghost use Rattle.cr_top.specs.Audited.{IsAuditOf, FirstAuditFault, HasNoProblem};
 ghost use Rattle.cr_top.specs.Logged.{IsLogOf};
 
-use cr_audit::laws::an_audit_has_one_answer;
+use cr_audit::laws::{all_logs_prove_one_list, an_audit_has_one_answer};
+use cr_log::laws::a_problem_has_one_log;
 use cr_read::bytes_have_one_answer;
 use cr_store::block_laws::each_place_has_one_answer;
 
@@ -23,6 +24,15 @@ pub fn texts_have_one_audit()
     an_audit_has_one_answer();
     bytes_have_one_answer();
     each_place_has_one_answer();
+}
+
+/// One text is written as the log of an input.
+pub fn an_input_has_one_log()
+    ensures { (input text other : List ℕ) → IsLogOf input text → IsLogOf input other → text ≡ other }
+{
+    a_problem_has_one_log();
+    all_logs_prove_one_list();
+    bytes_have_one_answer();
 }
 
 /// Whatever a log of a whole search is written as, an audit of it says yes, with the number of the book's touches.

@@ -8,6 +8,7 @@ ghost use Rattle.cr_store.specs.Written.{lists};
 ghost use Rattle.cr_trail.specs.Runs.{RunsTo};
 ghost use Rattle.cr_trail.specs.Trails.{EndsTrail};
 
+use crate::start::Start;
 use cr_board::{Board, Opening};
 use cr_io::Sink;
 use cr_node::Explorer;
@@ -68,21 +69,20 @@ pub fn run_by<R: AllocGlobal + Threads + Wait + Sync, E: Explorer + Sync>(
     run_boards(rt.alloc(), workers, &runner, left, turns, BOARD_TURNS)
 }
 
-/// Goes on with a search to its end by one worker, who waits for nobody, and writes a checkpoint at once, after each so
-/// many turns and at the end.
+/// Goes on with what an input says to the end of its search, by one worker, who waits for nobody, and writes a checkpoint
+/// at once, after each so many turns and at the end.
 pub fn trail_by_one<R: AllocGlobal + Threads + Sync, E: Explorer, K: Sink>(
     rt: &R,
     explorer: &E,
-    bytes: &[u8],
-    left: Remaining,
+    start: Start,
     every: u64,
     sink: &mut K,
 ) -> TrailEnd
     requires some { 1 ≤ every }
-    requires file { ProblemFile bytes.now (E.explores explorer.now) }
-    requires goes_on { CanGoOn (E.explores explorer.now) left.found.items (lists left.jobs.items) }
-    ensures ends { EndsTrail K.grew K.faults sink.old sink.new (E.explores explorer.now) bytes.now
-        left.found.items (lists left.jobs.items) every result }
+    requires file { ProblemFile start.bytes.items (E.explores explorer.now) }
+    requires goes_on { CanGoOn (E.explores explorer.now) start.left.found.items (lists start.left.jobs.items) }
+    ensures ends { EndsTrail K.grew K.faults sink.old sink.new (E.explores explorer.now) start.bytes.items
+        start.left.found.items (lists start.left.jobs.items) every result }
     ensures later { K.faults sink.old ≤ K.faults sink.new }
 {
     let call = |opening: Opening| -> Result<Board, NoMemory>
@@ -93,7 +93,7 @@ pub fn trail_by_one<R: AllocGlobal + Threads + Sync, E: Explorer, K: Sink>(
         problem: explorer.problem(),
         call,
     };
-    run_trail(rt, 1, &runner, bytes, left, every, sink)
+    run_trail(rt, 1, &runner, &start.bytes, start.left, every, sink)
 }
 
 /// The same by so many workers, who may wait for one another.
@@ -101,18 +101,17 @@ pub fn trail_by<R: AllocGlobal + Threads + Wait + Sync, E: Explorer + Sync, K: S
     rt: &R,
     workers: u32,
     explorer: &E,
-    bytes: &[u8],
-    left: Remaining,
+    start: Start,
     every: u64,
     sink: &mut K,
 ) -> TrailEnd
     requires some { 1 ≤ every }
-    requires file { ProblemFile bytes.now (E.explores explorer.now) }
-    requires goes_on { CanGoOn (E.explores explorer.now) left.found.items (lists left.jobs.items) }
+    requires file { ProblemFile start.bytes.items (E.explores explorer.now) }
+    requires goes_on { CanGoOn (E.explores explorer.now) start.left.found.items (lists start.left.jobs.items) }
     requires some_workers { 1 ≤ workers }
     requires few_workers { workers ≤ 64 }
-    ensures ends { EndsTrail K.grew K.faults sink.old sink.new (E.explores explorer.now) bytes.now
-        left.found.items (lists left.jobs.items) every result }
+    ensures ends { EndsTrail K.grew K.faults sink.old sink.new (E.explores explorer.now) start.bytes.items
+        start.left.found.items (lists start.left.jobs.items) every result }
     ensures later { K.faults sink.old ≤ K.faults sink.new }
 {
     let call = |opening: Opening| -> Result<Board, NoMemory>
@@ -123,7 +122,7 @@ pub fn trail_by<R: AllocGlobal + Threads + Wait + Sync, E: Explorer + Sync, K: S
         problem: explorer.problem(),
         call,
     };
-    run_trail(rt, workers, &runner, bytes, left, every, sink)
+    run_trail(rt, workers, &runner, &start.bytes, start.left, every, sink)
 }
 
 // Runs a board of an opening to its end, by as many workers as it has. One alone takes no lock.

@@ -12,7 +12,6 @@ use crate::boards::{trail_by, trail_by_one};
 use crate::gate::{Gate, Gated};
 use crate::preparing::prepare;
 use crate::refusal::{Refusal, result_for, status_for};
-use crate::start::Start;
 use cr_io::{Sink, Source};
 use cr_trail::laws::a_trail_of_what_an_input_says;
 use std::sync::Wait;
@@ -63,16 +62,11 @@ fn trailed_alone<R: AllocGlobal + Threads + Sync, S: Source, K: Sink, G: Gate + 
 {
     a_trail_of_what_an_input_says();
     let prepared = prepare(rt, source)?;
-    let Start {
-        bytes,
-        problem: _problem,
-        left,
-    } = prepared.start;
     let gated = Gated {
         explorer: &prepared.search,
         gate,
     };
-    let end = trail_by_one(rt, &gated, &bytes, left, every, sink);
+    let end = trail_by_one(rt, &gated, prepared.start, every, sink);
     result_for(end)
 }
 
@@ -95,15 +89,10 @@ pub fn trailed_together<R: AllocGlobal + Threads + Wait + Sync, S: Source, K: Si
 {
     a_trail_of_what_an_input_says();
     let prepared = prepare(rt, source)?;
-    let Start {
-        bytes,
-        problem: _problem,
-        left,
-    } = prepared.start;
     let gated = Gated {
         explorer: &prepared.search,
         gate,
     };
-    let end = trail_by(rt, workers, &gated, &bytes, left, every, sink);
+    let end = trail_by(rt, workers, &gated, prepared.start, every, sink);
     result_for(end)
 }

@@ -26,10 +26,10 @@ pub returns : goal.returns
 returns c =
     let p = c.args.problem.now in
     let run = c.in_ok-run.run in
-    is_logged c.args.bytes.now c.in_ok-text.text.items c.deref-3.result.now c.deref-4.result.now p run.book.items (log_text p run.lines.items)
+    is_logged c.args.bytes.now c.in_ok-text.text.items c.deref-3.result.now c.deref-4.result.now p run.book.items run.lines.items
     c.requires.begins c.requires.file
     (c.what_a_log_proves_is_the_book.ensures p _ run.book.items c.requires.file.sound c.in_ok-run.ensures.proves)
-    c.in_ok-run.ensures.proves
+    c.in_ok-run.ensures.first c.in_ok-run.ensures.proves
     (c.deref-3.ensures.value ∙ c.in_ok-book.ensures ∙ ap (book_text p) c.deref.ensures.value)
     (c.deref-4.ensures.value ∙ c.in_ok-log.ensures ∙ ap (log_text p) c.deref-2.ensures.value)
     c.in_ok-text.ensures
