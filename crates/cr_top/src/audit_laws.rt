@@ -1,9 +1,9 @@
 //! Laws of audits. Each is the contract of a function that does nothing.
 
-ghost use Rattle.std.specs.Prelude.{◌≡◌, ℕ, List, length};
+ghost use Rattle.std.specs.Prelude.{◌≡◌, ℕ, List, [], length, codes};
 ghost use Rattle.cr_audit.specs.declared.fault.AuditFault.{AuditFault};
 ghost use Rattle.cr_model.specs.declared.file_fault.ProblemFault.{ProblemFault};
-ghost use Rattle.cr_top.specs.Audited.{IsAuditOf, FirstAuditFault, HasNoProblem};
+ghost use Rattle.cr_top.specs.Audited.{IsAuditOf, FirstAuditFault, HasNoProblem, NotThree};
 ghost use Rattle.cr_top.specs.Logged.{IsLogOf};
 
 use cr_audit::laws::{all_logs_prove_one_list, an_audit_has_one_answer};
@@ -38,4 +38,14 @@ pub fn an_input_has_one_log()
 /// Whatever a log of a whole search is written as, an audit of it says yes, with the number of the book's touches.
 pub fn a_log_is_audited_with_yes()
     ensures { (input text : List ℕ) → (is : IsLogOf input text) → IsAuditOf text (length is.book) }
+{}
+
+/// Texts that are not three blocks, and the place of each that tells it: over at once, over behind two blocks, over within
+/// the second and within a fourth, and a whole fourth block.
+pub fn texts_that_are_not_three_blocks()
+    ensures empty { NotThree [] 0 }
+    ensures two { NotThree (codes "block 1\nxblock 1\ny") 18 }
+    ensures torn { NotThree (codes "block 1\nxblock 2\ny") 18 }
+    ensures more { NotThree (codes "block 1\nxblock 1\nyblock 1\nzbl") 29 }
+    ensures fourth { NotThree (codes "block 1\nxblock 1\nyblock 1\nzblock 1\nw") 27 }
 {}

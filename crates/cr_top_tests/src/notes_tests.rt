@@ -1,5 +1,6 @@
 //! What no clause says of notes: each line as it is printed, and lines that a fault ends.
 
+use cr_audit::AuditFault;
 use cr_io::{MemSink, SureSink};
 use cr_model::ProblemFault::*;
 use cr_model::{CountAt, KeyPath, NotationFault, Whose};
@@ -20,7 +21,7 @@ fn holds(line: &'static str, note: Option<&[u8]>) -> Result<(), Fail> {
     }
 }
 
-const STATUSES: [(Status, u8, &str); 21] = [
+const STATUSES: [(Status, u8, &str); 23] = [
     (Status::Finished, 0, ""),
     (Words(Line), 2, "ringsearch: words 1 Line\n"),
     (Words(Workers), 2, "ringsearch: words 2 Workers\n"),
@@ -66,6 +67,12 @@ const STATUSES: [(Status, u8, &str); 21] = [
         11,
         "ringsearch: join 2 Blocks 0\n",
     ),
+    (
+        Status::Audit(AuditFault::NoMemory),
+        12,
+        "ringsearch: audit 6 NoMemory\n",
+    ),
+    (Status::NotProblem, 13, "ringsearch: not a problem\n"),
 ];
 
 #[test]
