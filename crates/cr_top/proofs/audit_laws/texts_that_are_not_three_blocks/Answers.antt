@@ -9,14 +9,14 @@ use Rattle.cr_top.proofs.audit_laws.texts_that_are_not_three_blocks.Goals as goa
 one_byte : (b : ℕ) → IsBody (b ∷ [])
 one_byte b = (omega arith, omega arith)
 
-one : (a : ℕ) → All IsBody ((a ∷ []) ∷ [])
-one a = All-cons IsBody (a ∷ []) [] (one_byte a) (All-nil IsBody)
+of_one : (a : ℕ) → All IsBody ((a ∷ []) ∷ [])
+of_one a = All-cons IsBody (a ∷ []) [] (one_byte a) (All-nil IsBody)
 
-two : (a b : ℕ) → All IsBody ((a ∷ []) ∷ (b ∷ []) ∷ [])
-two a b = All-cons IsBody (a ∷ []) ((b ∷ []) ∷ []) (one_byte a) (one b)
+of_two : (a b : ℕ) → All IsBody ((a ∷ []) ∷ (b ∷ []) ∷ [])
+of_two a b = All-cons IsBody (a ∷ []) ((b ∷ []) ∷ []) (one_byte a) (of_one b)
 
-three : (a b c : ℕ) → All IsBody ((a ∷ []) ∷ (b ∷ []) ∷ (c ∷ []) ∷ [])
-three a b c = All-cons IsBody (a ∷ []) ((b ∷ []) ∷ (c ∷ []) ∷ []) (one_byte a) (two b c)
+of_three : (a b c : ℕ) → All IsBody ((a ∷ []) ∷ (b ∷ []) ∷ (c ∷ []) ∷ [])
+of_three a b c = All-cons IsBody (a ∷ []) ((b ∷ []) ∷ (c ∷ []) ∷ []) (one_byte a) (of_two b c)
 
 pub returns : goal.returns
 unfolding digits
@@ -30,14 +30,14 @@ returns c = record {
   two = record {
     before = codes "x" ∷ codes "y" ∷ [];
     last = next.End;
-    ends = record { are = two 120 121; rest = []; is = refl; here = refl; asked = omega arith };
+    ends = record { are = of_two 120 121; rest = []; is = refl; here = refl; asked = omega arith };
     wrong = (omega arith, refl);
   };
   torn = record {
     before = codes "x" ∷ [];
     last = next.Torn;
     ends = record {
-      are = one 120;
+      are = of_one 120;
       rest = codes "block 2\ny";
       is = refl;
       here = (omega arith, record { body = codes "yy"; size = (omega arith, omega arith); rest = codes "y"; some = omega arith; is = refl });
@@ -49,7 +49,7 @@ returns c = record {
     before = codes "x" ∷ codes "y" ∷ codes "z" ∷ [];
     last = next.Torn;
     ends = record {
-      are = three 120 121 122;
+      are = of_three 120 121 122;
       rest = codes "bl";
       is = refl;
       here = (omega arith, record { body = codes "w"; size = one_byte 119; rest = codes "ock 1\nw"; some = omega arith; is = refl });
@@ -61,7 +61,7 @@ returns c = record {
     before = codes "x" ∷ codes "y" ∷ codes "z" ∷ [];
     last = next.Block 35 1;
     ends = record {
-      are = three 120 121 122;
+      are = of_three 120 121 122;
       rest = codes "block 1\nw";
       is = refl;
       here = (codes "w", record { size = one_byte 119; rest = []; is = refl }, refl, refl);
