@@ -65,10 +65,10 @@ module _ {S K : Type 0} (source : Reading S) (sink : Writing K) (status : Status
   same taken is = sym (the_input (source.left source.old) input taken told is.told)
 
   yes : (taken : List ℕ) (number : ℕ) → WasRead source taken → IsAuditOf taken number → (length input ≤ 2 ^ 40) × SaysYes input
-  yes taken number read is = subst (λ x. (length x ≤ 2 ^ 40) × SaysYes x) (same taken read) (read.short, (number, is))
+  yes taken number read is = subst (λ (x : List ℕ). (length x ≤ 2 ^ 40) × SaysYes x) (same taken read) (read.short, (number, is))
 
   no : (taken : List ℕ) (status : Status) → WasRead source taken → SaysNo taken status → (length input ≤ 2 ^ 40) × SaysNo input status
-  no taken status read is = subst (λ x. (length x ≤ 2 ^ 40) × SaysNo x status) (same taken read) (read.short, is)
+  no taken status read is = subst (λ (x : List ℕ). (length x ≤ 2 ^ 40) × SaysNo x status) (same taken read) (read.short, is)
 
   tells : (status : Status) → EndsAudit source sink status → Tells input (SaysYes input) (SaysNo input) status
   tells ended.Finished ends = inl (inl refl, yes ends.0 ends.1 ends.2 ends.3)

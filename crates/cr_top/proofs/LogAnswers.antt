@@ -68,10 +68,10 @@ module _ {S K : Type 0} (source : Reading S) (sink : Writing K) (status : Status
   same taken is = sym (the_input (source.left source.old) input taken told is.told)
 
   yes : (taken text : List ℕ) → WasRead source taken → IsLogOf taken text → (length input ≤ 2 ^ 40) × HasLog input
-  yes taken text read is = subst (λ x. (length x ≤ 2 ^ 40) × HasLog x) (same taken read) (read.short, has_log taken text is)
+  yes taken text read is = subst (λ (x : List ℕ). (length x ≤ 2 ^ 40) × HasLog x) (same taken read) (read.short, has_log taken text is)
 
   no : (taken : List ℕ) (status : Status) → WasRead source taken → NoLog taken status → (length input ≤ 2 ^ 40) × NoLog input status
-  no taken status read is = subst (λ x. (length x ≤ 2 ^ 40) × NoLog x status) (same taken read) (read.short, is)
+  no taken status read is = subst (λ (x : List ℕ). (length x ≤ 2 ^ 40) × NoLog x status) (same taken read) (read.short, is)
 
   tells : (status : Status) → EndsLog source sink status → Tells input (HasLog input) (NoLog input) status
   tells ended.Finished ends = inl (inl refl, yes ends.0 ends.1 ends.2 ends.3)
