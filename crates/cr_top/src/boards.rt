@@ -93,7 +93,8 @@ pub fn trail_by_one<R: AllocGlobal + Threads + Sync, E: Explorer, K: Sink>(
         problem: explorer.problem(),
         call,
     };
-    run_trail(rt, 1, &runner, &start.bytes, start.left, every, sink)
+    let left = start.left;
+    run_trail(rt, 1, &runner, &start.bytes, left, every, sink)
 }
 
 /// The same by so many workers, who may wait for one another.
@@ -122,7 +123,8 @@ pub fn trail_by<R: AllocGlobal + Threads + Wait + Sync, E: Explorer + Sync, K: S
         problem: explorer.problem(),
         call,
     };
-    run_trail(rt, workers, &runner, &start.bytes, start.left, every, sink)
+    let left = start.left;
+    run_trail(rt, workers, &runner, &start.bytes, left, every, sink)
 }
 
 // Runs a board of an opening to its end, by as many workers as it has. One alone takes no lock.

@@ -62,11 +62,12 @@ fn trailed_alone<R: AllocGlobal + Threads + Sync, S: Source, K: Sink, G: Gate + 
 {
     a_trail_of_what_an_input_says();
     let prepared = prepare(rt, source)?;
+    let start = prepared.start;
     let gated = Gated {
         explorer: &prepared.search,
         gate,
     };
-    let end = trail_by_one(rt, &gated, prepared.start, every, sink);
+    let end = trail_by_one(rt, &gated, start, every, sink);
     result_for(end)
 }
 
@@ -89,10 +90,11 @@ pub fn trailed_together<R: AllocGlobal + Threads + Wait + Sync, S: Source, K: Si
 {
     a_trail_of_what_an_input_says();
     let prepared = prepare(rt, source)?;
+    let start = prepared.start;
     let gated = Gated {
         explorer: &prepared.search,
         gate,
     };
-    let end = trail_by(rt, workers, &gated, prepared.start, every, sink);
+    let end = trail_by(rt, workers, &gated, start, every, sink);
     result_for(end)
 }

@@ -1,4 +1,4 @@
-use Rattle.std.proofs.Common.{inl, inr, subst, arith}
+use Rattle.std.proofs.Common.{◌<◌, ◌^◌, length, inl, inr, subst, arith, rules}
 use Rattle.cr_store.specs.Blocks.{IsNext}
 use Rattle.cr_shard.proofs.BodyReads.{read_on}
 use Rattle.cr_top.proofs.AuditReads.{block_fits, over_early, wrong_behind}
@@ -6,6 +6,11 @@ use Rattle.cr_top.proofs.auditing.body_from.Goals as goal
 
 pub body_at-requires : goal.body_at-requires
 body_at-requires c = block_fits c.args.text.now c.args.at c.in-Block.place c.in-Block.size c.requires c.in-Block.ensures
+
+pub overflow_add-result : goal.overflow_add-result
+overflow_add-result c =
+    let few : length c.args.text.now < 2 ^ 64 = search rules in
+    omega (arith, few, block_fits c.args.text.now c.args.at c.in-Block.place c.in-Block.size c.requires c.in-Block.ensures)
 
 pub returns-in-Block-clause-inside : goal.returns-in-Block-clause-inside
 returns-in-Block-clause-inside c = block_fits c.args.text.now c.args.at c.in-Block.place c.in-Block.size c.requires c.in-Block.ensures
