@@ -32,14 +32,14 @@ SaysNo input status = ((why : AuditFault) × (status ≡ ended.Audit why) × Fir
 
 module _ (law : OneAudit) (input : List ℕ) where
   never : (status : Status) → SaysYes input → SaysNo input status → ⊥
-  never status yes (inl no) = law.no_fault input yes.0 no.0 yes.1 no.2
-  never status yes (inr no) = law.a_problem input yes.0 no.0 yes.1 no.2
+  never status has (inl lacks) = law.no_fault input has.0 lacks.0 has.1 lacks.2
+  never status has (inr lacks) = law.a_problem input has.0 lacks.0 has.1 lacks.2
 
   one : (status other : Status) → SaysNo input status → SaysNo input other → status ≡ other
-  one status other (inl no) (inl also) = no.1 ∙ ap ended.Audit (law.one_fault input no.0 also.0 no.2 also.2) ∙ sym also.1
-  one status other (inl no) (inr also) = absurd (law.never_both input no.0 also.0 no.2 also.2)
-  one status other (inr no) (inl also) = absurd (law.never_both input also.0 no.0 also.2 no.2)
-  one status other (inr no) (inr also) = no.1 ∙ ap ended.Problem (law.one_problem input no.0 also.0 no.2 also.2) ∙ sym also.1
+  one status other (inl lacks) (inl also) = lacks.1 ∙ ap ended.Audit (law.one_fault input lacks.0 also.0 lacks.2 also.2) ∙ sym also.1
+  one status other (inl lacks) (inr also) = absurd (law.never_both input lacks.0 also.0 lacks.2 also.2)
+  one status other (inr lacks) (inl also) = absurd (law.never_both input also.0 lacks.0 also.2 lacks.2)
+  one status other (inr lacks) (inr also) = lacks.1 ∙ ap ended.Problem (law.one_problem input lacks.0 also.0 lacks.2 also.2) ∙ sym also.1
 
 owed : (input : List ℕ) (due : Status) → IsAuditDue input due → IsOwed input (SaysNo input) due
 owed input (ended.Audit fault) is = inr (is.0, inl (fault, refl, is.1))
@@ -64,17 +64,17 @@ module _ {S K : Type 0} (source : Reading S) (sink : Writing K) (status : Status
   same : (taken : List ℕ) → WasRead source taken → taken ≡ input
   same taken is = sym (the_input (source.left source.old) input taken told is.told)
 
-  yes : (taken : List ℕ) (number : ℕ) → WasRead source taken → IsAuditOf taken number → (length input ≤ 2 ^ 40) × SaysYes input
-  yes taken number read is = subst (λ (x : List ℕ). (length x ≤ 2 ^ 40) × SaysYes x) (same taken read) (read.short, (number, is))
+  right : (taken : List ℕ) (number : ℕ) → WasRead source taken → IsAuditOf taken number → (length input ≤ 2 ^ 40) × SaysYes input
+  right taken number read is = subst (λ (x : List ℕ). (length x ≤ 2 ^ 40) × SaysYes x) (same taken read) (read.short, (number, is))
 
-  no : (taken : List ℕ) (status : Status) → WasRead source taken → SaysNo taken status → (length input ≤ 2 ^ 40) × SaysNo input status
-  no taken status read is = subst (λ (x : List ℕ). (length x ≤ 2 ^ 40) × SaysNo x status) (same taken read) (read.short, is)
+  wrong : (taken : List ℕ) (status : Status) → WasRead source taken → SaysNo taken status → (length input ≤ 2 ^ 40) × SaysNo input status
+  wrong taken status read is = subst (λ (x : List ℕ). (length x ≤ 2 ^ 40) × SaysNo x status) (same taken read) (read.short, is)
 
   tells : (status : Status) → EndsAudit source sink status → Tells input (SaysYes input) (SaysNo input) status
-  tells ended.Finished ends = inl (inl refl, yes ends.0 ends.1 ends.2 ends.3)
-  tells ended.WriteFault ends = inl (inr refl, yes ends.0 ends.1 ends.2 ends.3)
-  tells (ended.Audit fault) ends = inr (inr (inr (no ends.0 (ended.Audit fault) ends.1 (inl (fault, refl, ends.2)))))
-  tells (ended.Problem fault) ends = inr (inr (inr (no ends.0 (ended.Problem fault) ends.1 (inr (fault, refl, ends.2)))))
+  tells ended.Finished ends = inl (inl refl, right ends.0 ends.1 ends.2 ends.3)
+  tells ended.WriteFault ends = inl (inr refl, right ends.0 ends.1 ends.2 ends.3)
+  tells (ended.Audit fault) ends = inr (inr (inr (wrong ends.0 (ended.Audit fault) ends.1 (inl (fault, refl, ends.2)))))
+  tells (ended.Problem fault) ends = inr (inr (inr (wrong ends.0 (ended.Problem fault) ends.1 (inr (fault, refl, ends.2)))))
   tells ended.TooLong ends =
       let more : TookMore source.took source.old source.new (2 ^ 40) = ends.0.0 in
       inr (inl (refl, omega (arith, more.2, taken_of_told _ _ input more.0 told (shows more.0 more.1))))

@@ -35,14 +35,14 @@ has_log input text is = (is.p, is.file, is.begins)
 
 module _ (law : OneFile) (input : List ℕ) where
   never : (status : Status) → HasLog input → NoLog input status → ⊥
-  never status has (inl no) = law.never_both input has.0 no.0 has.1 no.2.1
-  never status has (inr no) = has.2 no.1
+  never status has (inl lacks) = law.never_both input has.0 lacks.0 has.1 lacks.2.1
+  never status has (inr lacks) = has.2 lacks.1
 
   one : (status other : Status) → NoLog input status → NoLog input other → status ≡ other
-  one status other (inl no) (inl also) = no.1 ∙ ap ended.Problem (law.one_fault input no.0 also.0 no.2.1 also.2.1) ∙ sym also.1
-  one status other (inl no) (inr also) = absurd (no.2.0 also.1)
-  one status other (inr no) (inl also) = absurd (also.2.0 no.1)
-  one status other (inr no) (inr also) = no.0 ∙ sym also.0
+  one status other (inl lacks) (inl also) = lacks.1 ∙ ap ended.Problem (law.one_fault input lacks.0 also.0 lacks.2.1 also.2.1) ∙ sym also.1
+  one status other (inl lacks) (inr also) = absurd (lacks.2.0 also.1)
+  one status other (inr lacks) (inl also) = absurd (also.2.0 lacks.1)
+  one status other (inr lacks) (inr also) = lacks.0 ∙ sym also.0
 
 owed : (input : List ℕ) (due : Status) → IsLogDue input due → IsOwed input (NoLog input) due
 owed input (ended.Problem fault) is = inr (is.0, inl (fault, refl, is.1))
@@ -67,17 +67,17 @@ module _ {S K : Type 0} (source : Reading S) (sink : Writing K) (status : Status
   same : (taken : List ℕ) → WasRead source taken → taken ≡ input
   same taken is = sym (the_input (source.left source.old) input taken told is.told)
 
-  yes : (taken text : List ℕ) → WasRead source taken → IsLogOf taken text → (length input ≤ 2 ^ 40) × HasLog input
-  yes taken text read is = subst (λ (x : List ℕ). (length x ≤ 2 ^ 40) × HasLog x) (same taken read) (read.short, has_log taken text is)
+  right : (taken text : List ℕ) → WasRead source taken → IsLogOf taken text → (length input ≤ 2 ^ 40) × HasLog input
+  right taken text read is = subst (λ (x : List ℕ). (length x ≤ 2 ^ 40) × HasLog x) (same taken read) (read.short, has_log taken text is)
 
-  no : (taken : List ℕ) (status : Status) → WasRead source taken → NoLog taken status → (length input ≤ 2 ^ 40) × NoLog input status
-  no taken status read is = subst (λ (x : List ℕ). (length x ≤ 2 ^ 40) × NoLog x status) (same taken read) (read.short, is)
+  wrong : (taken : List ℕ) (status : Status) → WasRead source taken → NoLog taken status → (length input ≤ 2 ^ 40) × NoLog input status
+  wrong taken status read is = subst (λ (x : List ℕ). (length x ≤ 2 ^ 40) × NoLog x status) (same taken read) (read.short, is)
 
   tells : (status : Status) → EndsLog source sink status → Tells input (HasLog input) (NoLog input) status
-  tells ended.Finished ends = inl (inl refl, yes ends.0 ends.1 ends.2 ends.3)
-  tells ended.WriteFault ends = inl (inr refl, yes ends.0 ends.1 ends.2 ends.3)
-  tells (ended.Problem fault) ends = inr (inr (inr (no ends.0 (ended.Problem fault) ends.1 (inl (fault, refl, ends.2)))))
-  tells ended.NotProblem ends = inr (inr (inr (no ends.0 ended.NotProblem ends.1 (inr (refl, ends.2)))))
+  tells ended.Finished ends = inl (inl refl, right ends.0 ends.1 ends.2 ends.3)
+  tells ended.WriteFault ends = inl (inr refl, right ends.0 ends.1 ends.2 ends.3)
+  tells (ended.Problem fault) ends = inr (inr (inr (wrong ends.0 (ended.Problem fault) ends.1 (inl (fault, refl, ends.2)))))
+  tells ended.NotProblem ends = inr (inr (inr (wrong ends.0 ended.NotProblem ends.1 (inr (refl, ends.2)))))
   tells ended.TooLong ends =
       let more : TookMore source.took source.old source.new (2 ^ 40) = ends.0.0 in
       inr (inl (refl, omega (arith, more.2, taken_of_told _ _ input more.0 told (shows more.0 more.1))))

@@ -15,19 +15,19 @@ IsOwed input No due = ((due ≡ ended.TooLong) × (2 ^ 40 < length input)) ⊎ (
 module _ (input : List ℕ) (Yes : Type 0) (No : Status → Type 0) (never : (status : Status) → Yes → No status → ⊥) (status : Status) where
   pub told_finished : Yes → length input ≤ 2 ^ 40 → (status ≡ ended.WriteFault → ⊥) → Tells input Yes No status
       → (status ≡ ended.Finished) ⊎ (status ≡ ended.NoMemory)
-  told_finished yes short writes (inl (inl is, more)) = inl is
-  told_finished yes short writes (inl (inr is, more)) = absurd (writes is)
-  told_finished yes short writes (inr (inl long)) = absurd (omega (arith, short, long.1))
-  told_finished yes short writes (inr (inr (inl is))) = inr is
-  told_finished yes short writes (inr (inr (inr no))) = absurd (never status yes no.1)
+  told_finished has short writes (inl (inl is, more)) = inl is
+  told_finished has short writes (inl (inr is, more)) = absurd (writes is)
+  told_finished has short writes (inr (inl long)) = absurd (omega (arith, short, long.1))
+  told_finished has short writes (inr (inr (inl is))) = inr is
+  told_finished has short writes (inr (inr (inr lacks))) = absurd (never status has lacks.1)
 
   pub told_refused : ((one other : Status) → No one → No other → one ≡ other) → (due : Status) → IsOwed input No due → Tells input Yes No status
       → (status ≡ due) ⊎ (status ≡ ended.NoMemory)
-  told_refused one due (inl long) (inl yes) = absurd (omega (arith, long.1, yes.1.0))
+  told_refused one due (inl long) (inl has) = absurd (omega (arith, long.1, has.1.0))
   told_refused one due (inl long) (inr (inl also)) = inl (also.0 ∙ sym long.0)
   told_refused one due (inl long) (inr (inr (inl is))) = inr is
-  told_refused one due (inl long) (inr (inr (inr no))) = absurd (omega (arith, long.1, no.0))
-  told_refused one due (inr no) (inl yes) = absurd (never due yes.1.1 no.1)
-  told_refused one due (inr no) (inr (inl long)) = absurd (omega (arith, long.1, no.0))
-  told_refused one due (inr no) (inr (inr (inl is))) = inr is
-  told_refused one due (inr no) (inr (inr (inr also))) = inl (one status due also.1 no.1)
+  told_refused one due (inl long) (inr (inr (inr lacks))) = absurd (omega (arith, long.1, lacks.0))
+  told_refused one due (inr lacks) (inl has) = absurd (never due has.1.1 lacks.1)
+  told_refused one due (inr lacks) (inr (inl long)) = absurd (omega (arith, long.1, lacks.0))
+  told_refused one due (inr lacks) (inr (inr (inl is))) = inr is
+  told_refused one due (inr lacks) (inr (inr (inr also))) = inl (one status due also.1 lacks.1)
