@@ -44,22 +44,21 @@ some_file (byte ∷ bytes) p is = omega arith
 pub book_steps : (p : ProblemParts) (log : List ℕ) (book : List (List ℕ)) → Proves p log book → All (HasSteps p) book
 book_steps p log book proved = λ k d inside. ((proved.each (get_or book k d)).0 (Contains-get_or book k d inside)).1.wanted.steps
 
--- what stands between others is not nothing
-some_between : (before some behind : List ℕ) → 0 < length some → 0 < length (before ++ (some ++ behind))
-some_between before some behind is = omega (arith, is, length-append before (some ++ behind), length-append some behind)
+-- a text that goes on with something is not nothing
+some_behind : (before last : List ℕ) → 0 < length last → 0 < length (before ++ last)
+some_behind before last is = omega (arith, is, length-append before last)
 
 some_before : (some behind : List ℕ) → 0 < length some → 0 < length (some ++ behind)
 some_before some behind is = omega (arith, is, length-append some behind)
 
 -- the last line of a book's text is there
 pub some_book : (p : ProblemParts) (book : List (List ℕ)) → 0 < length (book_text p book)
-some_book p book = some_between (flat_map (book_line p) book) (codes "touches ") (decimal (length book) ++ codes "\n") (omega arith)
+some_book p book = some_behind (flat_map (book_line p) book ++ codes "touches " ++ decimal (length book)) (codes "\n") (omega arith)
 
 -- and so is the first line of a log
 some_line : (p : ProblemParts) (line : LineParts) (rest : List ℕ) → 0 < length (line_text p line ++ rest)
 some_line p line rest =
-    some_before (line_text p line) rest
-    (some_between (steps_text p line.node) (codes " ") (verdict_text line.verdict ++ codes "\n") (omega arith))
+    some_before (line_text p line) rest (some_behind (steps_text p line.node ++ codes " " ++ verdict_text line.verdict) (codes "\n") (omega arith))
 
 some_lines : (p : ProblemParts) (lines : List LineParts) → AreDue p ([] ∷ []) lines [] → 0 < length (log_text p lines)
 some_lines p [] whole = absurd (omega (arith, ap length whole))
