@@ -1,5 +1,5 @@
 -- Reading three blocks, one after another, and what an audit of them answers.
-use Rattle.std.proofs.Common.{◌≡◌, ℕ, ◌+◌, ◌<◌, ◌≤◌, ◌⊎◌, inl, inr, List, [], ◌∷◌, ◌++◌, length, take, drop, Option, Result, Ok, Err, refl, sym, ap, ◌∙◌, subst, arith, length-append, append_assoc}
+use Rattle.std.proofs.Common.{◌≡◌, ℕ, ◌+◌, ◌≤◌, ◌⊎◌, inl, inr, List, [], ◌∷◌, ◌++◌, length, drop, Option, Result, Ok, Err, refl, sym, ap, ◌∙◌, subst, arith, length-append, append_assoc}
 use Rattle.std.specs.Prelude.{codes, IsErrAnd, MatchResult}
 use Rattle.std.proofs.lemmas.List.{length-drop}
 use Rattle.cr_audit.specs.Audits.{IsAuditFault, Audits}
@@ -9,7 +9,7 @@ use Rattle.cr_model.specs.Problems.{ProblemParts}
 use Rattle.cr_model.specs.Checkpoints.{number_line}
 use Rattle.cr_model.specs.ProblemFiles.{ProblemFile}
 use Rattle.cr_shard.specs.JoinFaults.{AreBodies}
-use Rattle.cr_store.specs.Blocks.{blocks, IsNext}
+use Rattle.cr_store.specs.Blocks.{IsNext}
 use Rattle.cr_store.specs.declared.blocks.Next.{Next}
 use Rattle.cr_store.specs.declared.blocks.Next.TheVariants as next
 use Rattle.cr_shard.specs.Reads.{IsReadTo}

@@ -1,5 +1,5 @@
 -- The book of what is left of a trail.
-use Rattle.std.proofs.Common.{◌≡◌, ℕ, ◌^◌, ◌<◌, List, [], ◌∷◌, length, None, ap, ◌∙◌, subst}
+use Rattle.std.proofs.Common.{ℕ, ◌^◌, ◌<◌, List, [], ◌∷◌, length, None, ap, ◌∙◌, subst}
 use Rattle.cr_model.specs.Problems.{ProblemParts}
 use Rattle.cr_model.specs.Books.{IsBook, book_text}
 use Rattle.cr_model.specs.Inputs.{Input, SameCover}

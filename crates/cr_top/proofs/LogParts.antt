@@ -1,5 +1,5 @@
 -- The parts of what a log is written as: none is empty.
-use Rattle.std.proofs.Common.{◌≡◌, ◌∙◌, ℕ, ◌+◌, ◌<◌, Bool, true, false, List, [], ◌∷◌, ◌++◌, length, get_or, Option, Some, None, refl, sym, ap, subst, arith, length-append, append_assoc, append-nil}
+use Rattle.std.proofs.Common.{◌≡◌, ◌∙◌, ℕ, ◌<◌, Bool, true, false, List, [], ◌∷◌, ◌++◌, length, get_or, Some, refl, sym, ap, subst, arith, length-append, append_assoc, append-nil}
 use Rattle.std.specs.Prelude.{All, codes, decimal, flat_map, option_map}
 use Rattle.std.proofs.lemmas.Bool.{true≢false}
 use Rattle.std.proofs.lemmas.Option.{same_Some}
@@ -17,7 +17,7 @@ use Rattle.cr_model.specs.Files.{FileParts, IsFile}
 use Rattle.cr_model.specs.Keys.{key_faults}
 use Rattle.cr_model.specs.ProblemFiles.{ProblemFile}
 use Rattle.cr_shard.specs.JoinFaults.{AreBodies}
-use Rattle.cr_store.specs.Blocks.{block, blocks, IsBody}
+use Rattle.cr_store.specs.Blocks.{block, IsBody}
 use Rattle.cr_top.specs.Logged.{IsLogOf}
 
 -- a text that is none of anything

@@ -1,5 +1,5 @@
 -- A text has one answer of an audit at most.
-use Rattle.std.proofs.Common.{◌≡◌, ◌≢◌, ℕ, List, [], ◌∷◌, get_or, Result, Ok, Err, refl, sym, ap, ◌∙◌, subst}
+use Rattle.std.proofs.Common.{◌≡◌, ◌≢◌, ℕ, List, [], ◌∷◌, get_or, Result, Ok, Err, ap, subst}
 use Rattle.cr_model.specs.Problems.{ProblemParts}
 use Rattle.cr_model.specs.Sound.{IsSound}
 use Rattle.cr_model.specs.ProblemFiles.{ProblemFile, FirstProblemFault}

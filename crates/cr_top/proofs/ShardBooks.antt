@@ -1,5 +1,5 @@
 -- The book of what is joined of shards.
-use Rattle.std.proofs.Common.{◌≡◌, ℕ, ◌+◌, ◌^◌, ◌<◌, ◌↔◌, List, [], ◌∷◌, ◌++◌, length, Option, None, inl, inr, refl, sym, subst, arith, length-append}
+use Rattle.std.proofs.Common.{◌≡◌, ℕ, ◌+◌, ◌^◌, ◌<◌, ◌↔◌, List, [], ◌∷◌, length, Option, None, inl, inr, refl, sym, subst, arith, length-append}
 use Rattle.std.specs.Prelude.{All, codes}
 use Rattle.std.specs.List.{AllZip}
 use Rattle.std.specs.List.Sorted.{IsPermutation}
@@ -13,7 +13,7 @@ use Rattle.cr_model.specs.Inputs.{Input, SameCover}
 use Rattle.cr_shard.specs.Deals.{IsDealt}
 use Rattle.cr_shard.specs.Joins.{AreRead, IsJoinedOf, NoneOverlap}
 use Rattle.cr_shard.specs.JoinFaults.{IsJoin}
-use Rattle.cr_store.specs.Blocks.{block, blocks, IsBody}
+use Rattle.cr_store.specs.Blocks.{block, blocks}
 use Rattle.cr_store.specs.Progress.{Progress}
 use Rattle.cr_top.specs.Shards.{IsCutOf}
 use Rattle.cr_top.specs.Texts.{IsBookOf}

@@ -1,5 +1,5 @@
 -- The parts of a search that writes a trail, and of a call that writes the last checkpoint of one.
-use Rattle.std.proofs.Common.{◌≡◌, ℕ, List, [], Option, Result, Ok, Err, inl, inr, sym, subst}
+use Rattle.std.proofs.Common.{◌≡◌, ℕ, List, Option, Result, Ok, Err, inl, inr, sym, subst}
 use Rattle.std.specs.Prelude.{IsErrAnd}
 use Rattle.cr_model.specs.Problems.{ProblemParts}
 use Rattle.cr_store.specs.Blocks.{blocks}

@@ -1,5 +1,5 @@
 -- From how a call of the program ends to how its wish does.
-use Rattle.std.proofs.Common.{◌≡◌, ℕ, ◌⊎◌, List, [], Option, inl, inr, refl, sym, ap, subst, arith}
+use Rattle.std.proofs.Common.{◌≡◌, ℕ, ◌⊎◌, List, [], Option, inl, inr, refl, ap, subst, arith}
 use Rattle.clap.specs.Words.{Text}
 use Rattle.cr_words.specs.Readings.{ReadsAs, IsAccepted, IsWordsFaultOf}
 use Rattle.cr_words.specs.declared.fault.WordsFault.{WordsFault}

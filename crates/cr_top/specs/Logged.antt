@@ -1,5 +1,5 @@
 -- What a log of a whole search is written as.
-use Rattle.std.specs.Prelude.{◌≡◌, ℕ, List, [], ◌∷◌}
+use Rattle.std.specs.Prelude.{ℕ, List, [], ◌∷◌}
 use Rattle.cr_model.specs.Problems.{ProblemParts}
 use Rattle.cr_model.specs.Checkpoints.{IsCheckpoint}
 use Rattle.cr_model.specs.ProblemFiles.{ProblemFile}

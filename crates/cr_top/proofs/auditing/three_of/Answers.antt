@@ -1,4 +1,4 @@
-use Rattle.std.proofs.Common.{[], ◌∷◌, arith}
+use Rattle.std.proofs.Common.{[], arith}
 use Rattle.cr_shard.proofs.BodyReads.{read_nothing}
 use Rattle.cr_top.proofs.AuditReads.{told_as}
 use Rattle.cr_top.proofs.auditing.three_of.Goals as goal

@@ -1,6 +1,4 @@
-use Rattle.std.proofs.Common.{sym, subst}
 use Rattle.cr_book.specs.Pieces.{pieces_joined}
-use Rattle.cr_top.specs.Refused.{WritesSearch}
 use Rattle.cr_top.proofs.Stages.{cut_off}
 use Rattle.cr_top.proofs.search.write_search.Goals as goal
 
