@@ -117,11 +117,7 @@ fn checkpoint_of(
 }
 
 // The nodes as jobs of these sizes.
-fn into_jobs(
-    alloc: Global,
-    sizes: &[usize],
-    nodes: Vec<Node>,
-) -> Result<Vec<Vec<Node>>, NoMemory>
+fn into_jobs(alloc: Global, sizes: &[usize], nodes: Vec<Node>) -> Result<Vec<Vec<Node>>, NoMemory>
     requires { in_all sizes.now ≡ length nodes.items }
     ensures { IfOk result (λ jobs. AreJobs sizes.now nodes.items (lists jobs.items)) }
 {
