@@ -35,8 +35,8 @@ module _ (p : ProblemParts) (shape : ShapeParts) (found nodes : List (List ℕ))
   pub outlined : last_line shape < 2 ^ 64 → AreOutlined p (outline_of shape) found nodes
   outlined few = record {
     few = few;
-    touches = sym found_count;
-    nodes = all_nodes shape.jobs ∙ sym node_count;
+    as_many_touches = sym found_count;
+    as_many_nodes = all_nodes shape.jobs ∙ sym node_count;
     touches_known = touches_have_steps p shape.found found has.touches_are;
     nodes_known = nodes_known p shape.version [] (node_lines_of shape) nodes has.nodes_are;
   }

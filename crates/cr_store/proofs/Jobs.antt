@@ -8,8 +8,14 @@ use Rattle.cr_store.specs.Progress.{AreJobs}
 use Rattle.cr_store.specs.Written.{lists}
 
 all_joined : (xs ys : List ℕ) → in_all (xs ++ ys) ≡ in_all xs + in_all ys
-all_joined [] ys = refl
-all_joined (x ∷ xs) ys = omega (arith, all_joined xs ys)
+all_joined [] ys =
+    let whole : in_all ([] ++ ys) ≡ in_all ys = refl in
+    let none : in_all [] ≡ 0 = refl in
+    omega (arith, whole, none)
+all_joined (x ∷ xs) ys =
+    let whole : in_all ((x ∷ xs) ++ ys) ≡ x + in_all (xs ++ ys) = refl in
+    let front : in_all (x ∷ xs) ≡ x + in_all xs = refl in
+    omega (arith, whole, front, all_joined xs ys)
 
 -- some nodes are left for the first jobs, and the jobs after them have the others, the last job first
 pub record AreLastJobs (sizes : List ℕ) (nodes : List (List ℕ)) (index : ℕ) (left : List (List ℕ)) (jobs : List (List (List ℕ))) : Type 0 where

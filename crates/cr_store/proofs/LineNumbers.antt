@@ -28,11 +28,12 @@ pub record IsAt (sizes : List ℕ) (line node number : ℕ) : Type 0 where
   pub inside : node < in_all sizes
   pub told : get_or (node_numbers line sizes) node 0 ≡ number
 
-module _ (sizes : List ℕ) (i size line node number : ℕ) (low : i < length sizes) (is : size ≡ get_or sizes i size) (at : IsAt (drop i sizes) line node number) where
+module _ (sizes : List ℕ) (i line node number : ℕ) (low : i < length sizes) (at : IsAt (drop i sizes) line node number) where
+  abbrev size : ℕ
+  size = get_or sizes i 0
+
   first : IsAt (size ∷ drop (i + 1) sizes) line node number
-  first =
-      let whole : drop i sizes ≡ size ∷ drop (i + 1) sizes = drop_more sizes i size low ∙ ap (λ s. s ∷ drop (i + 1) sizes) (sym is) in
-      subst (λ ss. IsAt ss line node number) whole at
+  first = subst (λ ss. IsAt ss line node number) (drop_more sizes i 0 low) at
 
   few : last_after (line + 1 + size) (drop (i + 1) sizes) < 2 ^ 64
   few = first.few

@@ -7,6 +7,7 @@ use Rattle.cr_model.specs.Callings.{HasSteps}
 use Rattle.cr_model.specs.Limits.{most_leads}
 use Rattle.cr_model.specs.Checkpoints.{steps_text, last_node}
 use Rattle.cr_book.specs.Readings.{IsCallingText}
+use Rattle.cr_store.specs.declared.outline.Outline.{Outline}
 use Rattle.cr_store.specs.declared.shape.NodeLine.{NodeLine}
 use Rattle.cr_store.specs.Shapes.{FoundParts, NodeParts}
 use Rattle.cr_store.specs.ShapeReads.{job_parts}
@@ -16,11 +17,14 @@ use Rattle.cr_store.specs.Lines.{OutlineParts, in_all, last_in, IsTouchOf, IsNod
 abbrev pub lines_of_jobs : List (Vec NodeLine) → List (List NodeParts)
 lines_of_jobs jobs = map job_parts jobs
 
+abbrev pub outline_parts : Outline → OutlineParts
+outline_parts outline = record { found_at = outline.found_at; touches = outline.touches; sizes = outline.sizes.items }
+
 -- found touches and nodes of a problem, as many as an outline has, of fewer than 2^64 lines
 pub record AreOutlined (p : ProblemParts) (outline : OutlineParts) (found nodes : List (List ℕ)) : Type 0 where
   pub few : last_in outline < 2 ^ 64
-  pub touches : outline.touches ≡ length found
-  pub nodes : in_all outline.sizes ≡ length nodes
+  pub as_many_touches : outline.touches ≡ length found
+  pub as_many_nodes : in_all outline.sizes ≡ length nodes
   pub touches_known : All (HasSteps p) found
   pub nodes_known : All (HasSteps p) nodes
 

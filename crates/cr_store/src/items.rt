@@ -3,7 +3,7 @@
 ghost use Rattle.std.specs.Prelude.{◌≡◌, ◌^◌, ◌<◌, MatchResult};
 ghost use Rattle.cr_store.specs.ShapeReads.{shape_parts};
 ghost use Rattle.cr_store.specs.Lines.{HasItems, last_in, outline_of};
-ghost use Rattle.cr_store.specs.Reading.{AreOutlined};
+ghost use Rattle.cr_store.specs.Reading.{AreOutlined, outline_parts};
 ghost use Rattle.cr_store.specs.Faults.{OrNoMemory, IsUnread, AnswersFor, AnswersForAll, lengths_check, kept_check, order_check, overlap_check, item_checks};
 
 use crate::checking::{first_long, first_out_of_order, first_unkept};
@@ -31,8 +31,8 @@ pub fn read_items(
     shape: &Shape,
     outline: &Outline,
 ) -> Result<Items, CheckFault>
-    requires few { last_in outline.now < 2 ^ 64 }
-    requires outline { outline.now ≡ outline_of (shape_parts shape.now) }
+    requires few { last_in (outline_parts outline.now) < 2 ^ 64 }
+    requires outline { outline_parts outline.now ≡ outline_of (shape_parts shape.now) }
     ensures { MatchResult result (λ items. HasItems problem.now (shape_parts shape.now) items.found.items items.nodes.items)
         (OrNoMemory (IsUnread problem.now (shape_parts shape.now))) }
 {
@@ -66,8 +66,8 @@ pub fn check_items(
     outline: &Outline,
     items: &Items,
 ) -> Result<(), CheckFault>
-    requires { AreOutlined problem.now outline.now items.now.found.items items.now.nodes.items }
-    ensures { AnswersForAll (item_checks problem.now outline.now items.now.found.items items.now.nodes.items) result }
+    requires { AreOutlined problem.now (outline_parts outline.now) items.now.found.items items.now.nodes.items }
+    ensures { AnswersForAll (item_checks problem.now (outline_parts outline.now) items.now.found.items items.now.nodes.items) result }
 {
     check_lengths(alloc, problem, outline, items)?;
     check_kept(alloc, problem, outline, items)?;
@@ -82,8 +82,8 @@ fn check_lengths(
     outline: &Outline,
     items: &Items,
 ) -> Result<(), CheckFault>
-    requires { AreOutlined problem.now outline.now items.now.found.items items.now.nodes.items }
-    ensures { AnswersFor (lengths_check problem.now outline.now items.now.found.items items.now.nodes.items) result }
+    requires { AreOutlined problem.now (outline_parts outline.now) items.now.found.items items.now.nodes.items }
+    ensures { AnswersFor (lengths_check problem.now (outline_parts outline.now) items.now.found.items items.now.nodes.items) result }
 {
     match first_long(alloc, problem, &items.nodes)? {
         Some(node) => {
@@ -101,8 +101,8 @@ fn check_kept(
     outline: &Outline,
     items: &Items,
 ) -> Result<(), CheckFault>
-    requires { AreOutlined problem.now outline.now items.now.found.items items.now.nodes.items }
-    ensures { AnswersFor (kept_check problem.now outline.now items.now.found.items) result }
+    requires { AreOutlined problem.now (outline_parts outline.now) items.now.found.items items.now.nodes.items }
+    ensures { AnswersFor (kept_check problem.now (outline_parts outline.now) items.now.found.items) result }
 {
     match first_unkept(alloc, problem, &items.found)? {
         Some(touch) => Err(CheckFault::NotKept(line_of(outline, touch))),
@@ -112,8 +112,8 @@ fn check_kept(
 
 // Each found touch comes after the one before it.
 fn check_order(problem: &Problem, outline: &Outline, items: &Items) -> Result<(), CheckFault>
-    requires { AreOutlined problem.now outline.now items.now.found.items items.now.nodes.items }
-    ensures { AnswersFor (order_check problem.now outline.now items.now.found.items) result }
+    requires { AreOutlined problem.now (outline_parts outline.now) items.now.found.items items.now.nodes.items }
+    ensures { AnswersFor (order_check problem.now (outline_parts outline.now) items.now.found.items) result }
 {
     match first_out_of_order(problem, &items.found) {
         Some(touch) => Err(CheckFault::FoundOrder(line_of(outline, touch))),
@@ -128,8 +128,8 @@ fn check_overlaps(
     outline: &Outline,
     items: &Items,
 ) -> Result<(), CheckFault>
-    requires { AreOutlined problem.now outline.now items.now.found.items items.now.nodes.items }
-    ensures { AnswersFor (overlap_check problem.now outline.now items.now.found.items items.now.nodes.items) result }
+    requires { AreOutlined problem.now (outline_parts outline.now) items.now.found.items items.now.nodes.items }
+    ensures { AnswersFor (overlap_check problem.now (outline_parts outline.now) items.now.found.items items.now.nodes.items) result }
 {
     match independent(alloc, problem, &items.found, &items.nodes)? {
         Some((earlier, later)) => {

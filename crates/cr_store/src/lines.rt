@@ -2,14 +2,15 @@
 
 ghost use Rattle.std.specs.Prelude.{◌≡◌, ◌+◌, ◌^◌, ◌<◌, get_or};
 ghost use Rattle.cr_store.specs.Lines.{in_all, last_after, last_in, line_at, node_numbers};
+ghost use Rattle.cr_store.specs.Reading.{outline_parts};
 
 use crate::outline::Outline;
 
 /// The number of the line of a touch or node, where found touches and then nodes are numbered from 0.
 pub fn line_of(outline: &Outline, item: usize) -> u64
-    requires few { last_in outline.now < 2 ^ 64 }
-    requires inside { item < outline.now.touches + in_all outline.now.sizes }
-    ensures { result ≡ line_at outline.now item }
+    requires few { last_in (outline_parts outline.now) < 2 ^ 64 }
+    requires inside { item < (outline_parts outline.now).touches + in_all (outline_parts outline.now).sizes }
+    ensures { result ≡ line_at (outline_parts outline.now) item }
 {
     if item < outline.touches {
         return outline.found_at + 1 + item as u64;

@@ -4,12 +4,11 @@ ghost use Rattle.std.specs.Prelude.{◌≡◌, length, map, IfOk};
 ghost use Rattle.cr_store.specs.Shapes.{found_line};
 ghost use Rattle.cr_store.specs.ShapeReads.{shape_parts};
 ghost use Rattle.cr_store.specs.Lines.{outline_of};
-ghost use Rattle.cr_store.specs.Reading.{lines_of_jobs};
+ghost use Rattle.cr_store.specs.Reading.{lines_of_jobs, outline_parts};
 
 use crate::shape::{NodeLine, Shape};
 use cr_row::NoMemory;
 use std::alloc::Global;
-use std::marker::Model;
 
 /// Of the lines of a checkpoint, how many there are.
 #[derive(Drop)]
@@ -22,19 +21,11 @@ pub struct Outline {
     pub sizes: Vec<usize>,
 }
 
-impl Model for Outline {
-    ghost use Rattle.cr_store.specs.Lines.{OutlineParts};
-
-    ghost Value = { OutlineParts };
-
-    ghost view = { λ outline. record { found_at = outline.found_at; touches = outline.touches; sizes = outline.sizes.items } };
-}
-
 impl Outline {
     /// The outline of a shape. Err where no memory is left.
     pub fn of(alloc: Global, shape: &Shape) -> Result<Outline, NoMemory>
         requires { shape.now.found_at ≡ found_line (shape_parts shape.now) }
-        ensures { IfOk result (λ outline. outline ≡ outline_of (shape_parts shape.now)) }
+        ensures { IfOk result (λ outline. outline_parts outline ≡ outline_of (shape_parts shape.now)) }
     {
         let sizes = sizes_of(alloc, &shape.jobs)?;
         Ok(Outline {

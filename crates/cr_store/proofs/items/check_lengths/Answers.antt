@@ -10,4 +10,4 @@ first_long-requires c = subst (All (HasSteps c.args.problem.now)) (sym c.deref.e
 pub line_of-line-requires-clause-inside : goal.line_of-line-requires-clause-inside
 line_of-line-requires-clause-inside c =
     let first = subst (TellsFirst (IsShortNode c.args.problem.now c.deref.result.now) (length c.deref.result.now)) c.in-Some.is c.in_ok-node.ensures in
-    omega (arith, first.within, ap length c.deref.ensures.value, c.len.ensures, c.args.items.now.found.ok.0, c.requires.touches, c.requires.nodes)
+    omega (arith, first.within, ap length c.deref.ensures.value, c.len.ensures, c.args.items.now.found.ok.0, c.requires.as_many_touches, c.requires.as_many_nodes)

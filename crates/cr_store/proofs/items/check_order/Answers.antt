@@ -10,4 +10,4 @@ first_out_of_order-requires c = subst (All (HasSteps c.args.problem.now)) (sym c
 pub line_of-requires-clause-inside : goal.line_of-requires-clause-inside
 line_of-requires-clause-inside c =
     let first = subst (TellsFirst (Follows c.args.problem.now c.deref.result.now) (length c.deref.result.now)) c.in-Some.is c.first_out_of_order.ensures in
-    omega (arith, first.within, ap length c.deref.ensures.value, c.requires.touches)
+    omega (arith, first.within, ap length c.deref.ensures.value, c.requires.as_many_touches)

@@ -15,8 +15,8 @@ line_of-first-requires-clause-inside c =
       pair.least.below,
       many,
       item_count p c.args.items.now.found.items c.args.items.now.nodes.items,
-      c.requires.touches,
-      c.requires.nodes,
+      c.requires.as_many_touches,
+      c.requires.as_many_nodes,
     )
 
 pub line_of-second-requires-clause-inside : goal.line_of-second-requires-clause-inside
@@ -25,4 +25,4 @@ line_of-second-requires-clause-inside c =
     let pair = subst (TellsOverlap p c.deref.result.now c.deref-2.result.now) c.in-Some.is c.in_ok-earlier.ensures in
     let many : length (items p c.deref.result.now c.deref-2.result.now) ≡ length (items p c.args.items.now.found.items c.args.items.now.nodes.items) =
     ap₂ (λ f n. length (items p f n)) c.deref.ensures.value c.deref-2.ensures.value in
-    omega (arith, pair.inside, many, item_count p c.args.items.now.found.items c.args.items.now.nodes.items, c.requires.touches, c.requires.nodes)
+    omega (arith, pair.inside, many, item_count p c.args.items.now.found.items c.args.items.now.nodes.items, c.requires.as_many_touches, c.requires.as_many_nodes)

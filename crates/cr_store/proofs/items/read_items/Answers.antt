@@ -15,8 +15,8 @@ line_of-requires-clause-inside c =
     (subst (ReadsTouches p (map found_parts c.deref.result.now) found) c.if-not-branch.true c.in_ok-read_touches.ensures) in
     omega (arith, (reads.stops refl).within, c.len-then-not-branch.ensures, c.read_touches.new.found.ok.0, ap (λ o. o.touches) c.requires.outline)
 
-pub line_of-then-not-branch-2-requires-clause-inside : goal.line_of-then-not-branch-2-requires-clause-inside
-line_of-then-not-branch-2-requires-clause-inside c =
+pub line_of-requires-then-not-branch-2-clause-inside : goal.line_of-requires-then-not-branch-2-clause-inside
+line_of-requires-then-not-branch-2-clause-inside c =
     let p = c.args.problem.now in
     let shape = shape_parts c.args.shape.now in
     let found = c.read_touches.new.found.items in
