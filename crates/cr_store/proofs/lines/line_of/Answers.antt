@@ -5,6 +5,9 @@ use Rattle.cr_store.specs.Reading.{outline_parts}
 use Rattle.cr_store.proofs.LineNumbers.{of_touch, of_node, after_found}
 use Rattle.cr_store.proofs.lines.line_of.Goals as goal
 
+pub overflow_add-result : goal.overflow_add-result
+overflow_add-result c = omega (arith, c.requires.few, after_found (outline_parts c.args.outline.now))
+
 pub overflow_add-result-then-item-outline : goal.overflow_add-result-then-item-outline
 overflow_add-result-then-item-outline c = omega (arith, c.requires.few, after_found (outline_parts c.args.outline.now))
 
