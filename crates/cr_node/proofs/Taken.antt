@@ -1,5 +1,5 @@
 -- The first words, sorted.
-use Rattle.std.proofs.Common.{◌≡◌, ℕ, ◌+◌, ◌<◌, ◌≤◌, ◌↔◌, List, [], ◌∷◌, length, take, sym, ap₂, ◌∙◌, subst, arith}
+use Rattle.std.proofs.Common.{◌≡◌, ℕ, ◌+◌, ◌<◌, ◌≤◌, ◌↔◌, List, [], ◌∷◌, length, take, sym, ap, ap₂, ◌∙◌, subst, arith}
 use Rattle.std.specs.List.Sorted.{IsPermutation, IsSortedBy}
 use Rattle.std.specs.Ordering.{is_lt}
 use Rattle.std.proofs.lemmas.List.{get_or-map, get_or-take, length-map, take-map, length-take-le}
@@ -30,18 +30,24 @@ taken_apart all number within long = (
       ap₂ overlaps (get_or-take number all i (of_node []) (omega arith)) (get_or-take number all j (of_node []) inside) ∙ apart i j less inside,
 )
 
--- no two of the first words overlap exactly where, in order, none begins the next
-pub sorted_apart : (words sorted : List Word) (number : ℕ) → number ≤ length words → IsPermutation (take number words) sorted
+-- no two of some words overlap exactly where, in order, none begins the next
+pub sorted_apart : (words sorted : List Word) → IsPermutation words sorted
     → IsSortedBy (λ word other. is_lt (item_cmp (item_of word) (item_of other))) sorted
-    → NoneBeginsNext (items_of sorted) ↔ ApartBelow (items_of words) number
-sorted_apart words sorted number within moved order =
-    let front : List Item = items_of (take number words) in
-    let is : front ≡ take number (items_of words) = sym (take-map item_of number words) in
+    → NoneBeginsNext (items_of sorted) ↔ ApartBelow (items_of words) (length (items_of words))
+sorted_apart words sorted moved order =
+    let same : IsPermutation (items_of words) (items_of sorted) = IsPermutation-map item_of words sorted moved in
+    let none = apart_where_none_begins (items_of sorted) (items_sorted sorted order) in (
+      λ h. apart_moved (items_of sorted) (items_of words) (IsPermutation-sym (items_of words) (items_of sorted) same) (none.0 h),
+      λ h. none.1 (apart_moved (items_of words) (items_of sorted) same h),
+    )
+
+-- no two of the first words overlap
+pub first_apart : (words front : List Word) (number : ℕ) → number ≤ length words → front ≡ take number words
+    → ApartBelow (items_of front) (length (items_of front)) ↔ ApartBelow (items_of words) number
+first_apart words front number within is =
     let inside : number ≤ length (items_of words) = omega (arith, length-map words item_of) in
-    let same : IsPermutation front (items_of sorted) = IsPermutation-map item_of (take number words) sorted moved in
-    let none = apart_where_none_begins (items_of sorted) (items_sorted sorted order) in
-    let taken = taken_apart (items_of words) number inside (length-take-le number (items_of words) inside) in (
-      λ h. taken.0 (subst (λ (items : List Item). ApartBelow items (length items)) is
-          (apart_moved (items_of sorted) front (IsPermutation-sym front (items_of sorted) same) (none.0 h))),
-      λ h. none.1 (apart_moved front (items_of sorted) same (subst (λ (items : List Item). ApartBelow items (length items)) (sym is) (taken.1 h))),
+    let taken = taken_apart (items_of words) number inside (length-take-le number (items_of words) inside) in
+    let same : items_of front ≡ take number (items_of words) = ap items_of is ∙ sym (take-map item_of number words) in (
+      λ h. taken.0 (subst (λ (items : List Item). ApartBelow items (length items)) same h),
+      λ h. subst (λ (items : List Item). ApartBelow items (length items)) (sym same) (taken.1 h),
     )

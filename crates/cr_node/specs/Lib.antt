@@ -1,2 +1,3 @@
 pub mod Overlaps
 pub mod Work
+pub mod Places

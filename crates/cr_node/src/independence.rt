@@ -1,7 +1,7 @@
 //! Whether found touches and nodes are independent.
 
 ghost use Rattle.std.specs.Prelude.{◌≡◌, ℕ, ◌+◌, ◌<◌, ◌≤◌, ◌↔◌, length, IsTrue, IfOk};
-ghost use Rattle.cr_node.specs.Overlaps.{item_at, items_of, ApartBelow, NoneBeginsNext, TellsLeast, TellsOverlap};
+ghost use Rattle.cr_node.specs.Overlaps.{item_at, items, items_of, ApartBelow, IsFirstOverlap, NoneBeginsNext, TellsLeast, TellsOverlap};
 
 use crate::node::Node;
 use crate::words::{Word, words_of};
@@ -25,24 +25,46 @@ pub fn independent(
     ensures { IfOk result (TellsOverlap problem.now found.now nodes.now) }
 {
     let words = words_of(alloc, problem, found, nodes)?;
-    if are_apart(alloc, &words, words.len())? {
+    if are_apart(words) {
         return Ok(None);
     }
+    let pair = first_overlap(alloc, problem, found, nodes)?;
+    Ok(Some(pair))
+}
+
+// The first pair that overlaps, of words that are made anew.
+fn first_overlap(
+    alloc: Global,
+    problem: &Problem,
+    found: &[Calling],
+    nodes: &[Node],
+) -> Result<(u64, u64), NoMemory>
+    requires { ApartBelow (items problem.now found.now nodes.now) (length (items problem.now found.now nodes.now)) → ⊥ }
+    ensures { IfOk result (λ pair. IsFirstOverlap (items problem.now found.now nodes.now) pair.0 pair.1) }
+{
+    let words = words_of(alloc, problem, found, nodes)?;
     let later = first_to_overlap(alloc, &words)?;
     match least_overlapped(&words, later) {
-        Some(earlier) => Ok(Some((earlier as u64, later as u64))),
+        Some(earlier) => Ok((earlier as u64, later as u64)),
         None => unreachable!(),
     }
 }
 
+// Whether no two of the words overlap. They are sorted as they stand, and not copied.
+fn are_apart(mut words: Vec<Word>) -> bool
+    ensures { IsTrue result ↔ ApartBelow (items_of words.entry.items) (length (items_of words.entry.items)) }
+{
+    words.sort_unstable();
+    none_begins_next(&words)
+}
+
 // Whether no two of the first words overlap.
-fn are_apart(alloc: Global, words: &[Word], number: usize) -> Result<bool, NoMemory>
+fn first_are_apart(alloc: Global, words: &[Word], number: usize) -> Result<bool, NoMemory>
     requires { number ≤ length words.now }
     ensures { IfOk result (λ apart. IsTrue apart ↔ ApartBelow (items_of words.now) number) }
 {
-    let mut sorted = words[..number].to_vec(alloc)?;
-    sorted.sort_unstable();
-    Ok(none_begins_next(&sorted))
+    let front = words[..number].to_vec(alloc)?;
+    Ok(are_apart(front))
 }
 
 // Whether no word of a node begins the word after it. In sorted words a node that begins any begins the next one.
@@ -68,7 +90,7 @@ fn first_to_overlap(alloc: Global, words: &[Word]) -> Result<usize, NoMemory>
     let mut high = words.len();
     while high - low > 1 {
         let middle = low + (high - low) / 2;
-        if are_apart(alloc, words, middle)? {
+        if first_are_apart(alloc, words, middle)? {
             low = middle;
         } else {
             high = middle;

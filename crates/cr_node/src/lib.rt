@@ -13,6 +13,7 @@
 
 mod done;
 mod explorer;
+mod few_steps;
 mod independence;
 pub mod laws;
 mod node;

@@ -132,10 +132,10 @@ fn nodes_are_short(rt: HostRuntime) -> Result<(), Fail> {
     Ok(())
 }
 
-// Up to 40 steps lie in the node itself.
+// Up to 30 steps lie in the node itself.
 #[test]
 fn nodes_of_few_steps_and_of_many(rt: HostRuntime) -> Result<(), Fail> {
-    for length in [0, 1, 39, 40, 41, 1_024] {
+    for length in [0, 1, 29, 30, 31, 1_024] {
         let steps = Vec::from_elem(rt.alloc(), 3, length)?;
         let node = Node::from_slice(rt.alloc(), &steps)?;
         assert_eq!(rt; node.steps(), steps.as_slice());

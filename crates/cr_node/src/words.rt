@@ -79,7 +79,7 @@ pub fn words_of<'a>(
 ) -> Result<Vec<Word<'a>>, NoMemory>
     ensures { IfOk result (λ words. items_of words.items ≡ items problem.now found.now nodes.now) }
 {
-    let mut words = Vec::new(alloc);
+    let mut words = Vec::with_capacity(alloc, found.len().saturating_add(nodes.len()))?;
     for calling in found {
         words.push(word_of_found(problem, calling))?;
     }

@@ -2,7 +2,7 @@
 
 ghost use Rattle.std.specs.Prelude.{◌≡◌, ◌+◌, ◌%◌, ◌<◌, ◌≤◌, ◌++◌, length, map, IfOk};
 ghost use Rattle.cr_model.specs.ProblemFiles.{ProblemFile};
-ghost use Rattle.cr_model.specs.Checkpoints.{CanGoOn, nodes_of_jobs};
+ghost use Rattle.cr_model.specs.Checkpoints.{CanGoOn, checkpoint_text, nodes_of_jobs};
 ghost use Rattle.cr_store.specs.Written.{lists};
 ghost use Rattle.cr_shard.specs.Deals.{dealt_found, dealt_nodes, as_jobs, shard_text, nodes_seen, IsCut};
 
@@ -33,13 +33,32 @@ pub fn cut_blocks(
     let nodes = all_nodes(alloc, jobs)?;
     let mut text = Vec::new(alloc);
     for shard in 0..into {
-        let touches = touches_of(found, shard);
-        let job = nodes_of(alloc, &nodes, into, shard)?;
-        let job = one_job(alloc, job)?;
-        let body = write_parts(alloc, problem, problem_bytes, touches, &job)?;
+        let body = shard_of(alloc, problem, problem_bytes, found, &nodes, into, shard)?;
         put_block(&mut text, &body)?;
     }
     Ok(text)
+}
+
+// The checkpoint of a shard. Its nodes are copied, and let go before its block needs memory.
+fn shard_of(
+    alloc: Global,
+    problem: &Problem,
+    problem_bytes: &[u8],
+    found: &[Calling],
+    nodes: &[&Node],
+    into: u32,
+    shard: u32,
+) -> Result<Vec<u8>, NoMemory>
+    requires file { ProblemFile problem_bytes.now problem.now }
+    requires inside { shard < into }
+    requires goes_on { CanGoOn problem.now (dealt_found shard found.now) (as_jobs (dealt_nodes into shard (nodes_seen nodes.now))) }
+    ensures { IfOk result (λ body. body.items ≡ checkpoint_text problem.now problem_bytes.now (dealt_found shard found.now) (as_jobs (dealt_nodes into shard (nodes_seen nodes.now)))) }
+{
+    let touches = touches_of(found, shard);
+    let job = nodes_of(alloc, nodes, into, shard)?;
+    let job = one_job(alloc, job)?;
+    let body = write_parts(alloc, problem, problem_bytes, touches, &job)?;
+    Ok(body)
 }
 
 // The nodes of all jobs, in order.

@@ -16,7 +16,7 @@ use Rattle.cr_model.specs.Checks.{AllHold}
 use Rattle.cr_model.specs.Checkpoints.{CanGoOn, CheckFile, versioned_text}
 use Rattle.cr_model.specs.ProblemFiles.{ProblemFile}
 use Rattle.cr_store.specs.Shapes.{NodeParts, ShapeParts, IsJobLines, HasShape}
-use Rattle.cr_store.specs.Lines.{node_lines_of, HasItems}
+use Rattle.cr_store.specs.Lines.{outline_of, node_lines_of, HasItems}
 use Rattle.cr_store.specs.Faults.{Follows, item_checks, HasLines}
 use Rattle.cr_store.specs.Progress.{Progress, AreJobs, IsMadeOf}
 use Rattle.cr_store.proofs.LineReads.{nodes_known}
@@ -42,7 +42,7 @@ filled version (line ∷ lines) (job ∷ jobs) are many =
     let others : map length jobs ≡ map length lines = cc in
     All-cons (λ j. 0 < length j) job jobs (omega (arith, (All-head (IsJobLines version) line lines are).some)) (filled version lines jobs (All-tail (IsJobLines version) line lines are) others)
 
-module _ (p : ProblemParts) (shape : ShapeParts) (found nodes : List (List ℕ)) (has : HasItems p shape found nodes) (hold : AllHold (item_checks p shape found nodes)) where
+module _ (p : ProblemParts) (shape : ShapeParts) (found nodes : List (List ℕ)) (has : HasItems p shape found nodes) (hold : AllHold (item_checks p (outline_of shape) found nodes)) where
   valid : All (IsValid p) nodes
   valid = λ k d inside. record {
     steps = nodes_known p shape.version [] (node_lines_of shape) nodes has.nodes_are k d inside;
@@ -52,7 +52,7 @@ module _ (p : ProblemParts) (shape : ShapeParts) (found nodes : List (List ℕ))
   kept : All (Kept p) found
   kept = λ k d inside. subst (Kept p) (get_or_default found k [] d inside) (hold.1.0 k inside)
 
-  pub goes_on : (jobs : List (List (List ℕ))) → All (IsJobLines shape.version) shape.jobs → AreJobs shape.jobs nodes jobs → CanGoOn p found jobs
+  pub goes_on : (jobs : List (List (List ℕ))) → All (IsJobLines shape.version) shape.jobs → AreJobs (map length shape.jobs) nodes jobs → CanGoOn p found jobs
   goes_on jobs some are = record {
     kept = kept;
     ascending = in_order p found hold.1.1.0;
@@ -61,7 +61,7 @@ module _ (p : ProblemParts) (shape : ShapeParts) (found nodes : List (List ℕ))
     independent = subst (Independent p found) (sym are.nodes_are) hold.1.1.1.0;
   }
 
-  pub accepted : (bytes : List ℕ) (jobs : List (List (List ℕ))) → HasShape bytes shape → ProblemFile shape.problem p → AreJobs shape.jobs nodes jobs
+  pub accepted : (bytes : List ℕ) (jobs : List (List (List ℕ))) → HasShape bytes shape → ProblemFile shape.problem p → AreJobs (map length shape.jobs) nodes jobs
       → CheckFile bytes shape.problem p found jobs
   accepted bytes jobs shape_is problem are = record {
     problem = problem;
@@ -78,7 +78,7 @@ module _ (p : ProblemParts) (shape : ShapeParts) (found nodes : List (List ℕ))
 
 -- what is made of a shape, of found touches and of nodes is a checkpoint
 pub made_accepted : (bytes : List ℕ) (shape : ShapeParts) (p : ProblemParts) (found nodes : List (List ℕ)) (c : Progress) → HasLines bytes shape p found nodes
-    → AllHold (item_checks p shape found nodes) → IsMadeOf shape p found nodes c → CheckFile bytes c.bytes c.problem c.found c.jobs
+    → AllHold (item_checks p (outline_of shape) found nodes) → IsMadeOf shape.problem p (map length shape.jobs) found nodes c → CheckFile bytes c.bytes c.problem c.found c.jobs
 made_accepted bytes shape p found nodes c lines hold made =
     let file = accepted p shape found nodes lines.items hold bytes c.jobs lines.problem.shape_is lines.problem.problem made.jobs_are in
     subst (λ b. CheckFile bytes b c.problem c.found c.jobs) (sym made.bytes_are) (subst (λ q. CheckFile bytes shape.problem q c.found c.jobs) (sym made.problem_is)

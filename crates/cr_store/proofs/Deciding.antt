@@ -1,5 +1,5 @@
 -- Bytes are a checkpoint, or have a first fault.
-use Rattle.std.proofs.Common.{◌≡◌, ℕ, zero, suc, ◌+◌, ◌<◌, ◌⊎◌, ◌↔◌, Bool, true, false, List, [], ◌∷◌, ◌++◌, length, get_or, take, drop, flat_map, Ordering, inl, inr, refl, sym, ap, ap₂, ◌∙◌, subst, arith, length-append, take-append-drop}
+use Rattle.std.proofs.Common.{◌≡◌, ℕ, zero, suc, ◌+◌, ◌<◌, ◌⊎◌, ◌↔◌, Bool, true, false, List, [], ◌∷◌, ◌++◌, length, map, get_or, take, drop, flat_map, Ordering, inl, inr, refl, sym, ap, ap₂, ◌∙◌, subst, arith, length-append, take-append-drop}
 use Rattle.std.specs.declared.cmp.Ordering.TheVariants.{Less}
 use Rattle.std.proofs.lemmas.Bool.{cases_Bool, cases_lt, false≢true, true≢false}
 use Rattle.std.proofs.lemmas.List.{length-take, length-drop}
@@ -20,7 +20,7 @@ use Rattle.cr_store.specs.declared.fault.CheckFault.{CheckFault}
 use Rattle.cr_store.specs.declared.fault.CheckFault.TheVariants as fault
 use Rattle.cr_store.specs.Shapes.{FoundParts, NodeParts, ShapeParts, HasShape}
 use Rattle.cr_store.specs.ShapeFaults.{IsFormFault}
-use Rattle.cr_store.specs.Lines.{node_lines_of, line_of, IsTouchOf, IsNodeOf}
+use Rattle.cr_store.specs.Lines.{outline_of, node_lines_of, line_of, IsTouchOf, IsNodeOf}
 use Rattle.cr_store.specs.Reading.{ReadsTouches, ReadsNodes}
 use Rattle.cr_store.specs.Faults.{IsShortNode, IsKeptAt, Follows, HasProblem, HasLines, item_checks, FirstCheckFault}
 use Rattle.cr_store.specs.Progress.{Progress, AreJobs}
@@ -68,7 +68,7 @@ apart_or_not all = by (first_or_none (λ j. (i : ℕ) → i < j → overlaps (it
     by (inr some) = inr (λ apart. some.1.wrong (λ i low. apart i some.0 low some.1.within))
 
 -- nodes as jobs, each of as many as it has lines
-cut : (lines : List (List NodeParts)) (nodes : List (List ℕ)) → length nodes ≡ length (flat_map (λ job. job) lines) → (jobs : List (List (List ℕ))) × AreJobs lines nodes jobs
+cut : (lines : List (List NodeParts)) (nodes : List (List ℕ)) → length nodes ≡ length (flat_map (λ job. job) lines) → (jobs : List (List (List ℕ))) × AreJobs (map length lines) nodes jobs
 cut [] [] long = ([], record { nodes_are = refl; lengths_are = refl })
 cut [] (node ∷ nodes) long = absurd (omega arith)
 cut (line ∷ lines) nodes long =
@@ -146,7 +146,7 @@ module _ (laws : Laws) (p : ProblemParts) (sound : IsSound p) where
   ]
 
   -- all checks hold, or one is the first that does not
-  check_items : (shape : ShapeParts) (found nodes : List (List ℕ)) → AllHold (item_checks p shape found nodes) ⊎ ((why : CheckFault) × IsFirstFailure (item_checks p shape found nodes) why)
+  check_items : (shape : ShapeParts) (found nodes : List (List ℕ)) → AllHold (item_checks p (outline_of shape) found nodes) ⊎ ((why : CheckFault) × IsFirstFailure (item_checks p (outline_of shape) found nodes) why)
   check_items shape found nodes = by_length
       (first_or_none (IsShortNode p nodes) (length nodes) (λ i inside. low_or_not (length_of p (get_or nodes i [])) (part_cap p)))
       (first_or_none (IsKeptAt p found) (length found) (λ i inside. kept_or_not (get_or found i [])))
@@ -154,13 +154,13 @@ module _ (laws : Laws) (p : ProblemParts) (sound : IsSound p) where
       (apart_or_not (items p found nodes))
     where
       Shape : Type 0
-      Shape = AllHold (item_checks p shape found nodes) ⊎ ((why : CheckFault) × IsFirstFailure (item_checks p shape found nodes) why)
+      Shape = AllHold (item_checks p (outline_of shape) found nodes) ⊎ ((why : CheckFault) × IsFirstFailure (item_checks p (outline_of shape) found nodes) why)
 
       by_length : ((i : ℕ) → i < length nodes → IsShortNode p nodes i) ⊎ ((i : ℕ) × IsFirstWrong (IsShortNode p nodes) (length nodes) i)
           → ((i : ℕ) → i < length found → IsKeptAt p found i) ⊎ ((i : ℕ) × IsFirstWrong (IsKeptAt p found) (length found) i)
           → ((i : ℕ) → i < length found → Follows p found i) ⊎ ((i : ℕ) × IsFirstWrong (Follows p found) (length found) i)
           → Decided (ApartBelow (items p found nodes) (length (items p found nodes)))
-          → AllHold (item_checks p shape found nodes) ⊎ ((why : CheckFault) × IsFirstFailure (item_checks p shape found nodes) why)
+          → AllHold (item_checks p (outline_of shape) found nodes) ⊎ ((why : CheckFault) × IsFirstFailure (item_checks p (outline_of shape) found nodes) why)
       by_length (inr long) kept follow apart = inr (fault.NodeLong (line_of shape (length found + long.0)), inl (long.0, refl, long.1))
       by_length (inl short) (inr unkept) follow apart = inr (fault.NotKept (line_of shape unkept.0), inr (short, inl (unkept.0, refl, unkept.1)))
       by_length (inl short) (inl kept) (inr behind) apart = inr (fault.FoundOrder (line_of shape behind.0), inr (short, inr (kept, inl (behind.0, refl, behind.1))))
@@ -175,7 +175,7 @@ Answered bytes = ((c : Progress) × CheckFile bytes c.bytes c.problem c.found c.
 
 module _ (laws : Laws) (bytes : List ℕ) where
   with_items : (shape : ShapeParts) (p : ProblemParts) (found nodes : List (List ℕ)) → HasLines bytes shape p found nodes
-      → AllHold (item_checks p shape found nodes) ⊎ ((why : CheckFault) × IsFirstFailure (item_checks p shape found nodes) why) → Answered bytes
+      → AllHold (item_checks p (outline_of shape) found nodes) ⊎ ((why : CheckFault) × IsFirstFailure (item_checks p (outline_of shape) found nodes) why) → Answered bytes
   with_items shape p found nodes lines (inr wrong) = inr (wrong.0, of_items bytes shape p found nodes wrong.0 lines wrong.1)
   with_items shape p found nodes lines (inl hold) =
       let (jobs, are) = cut shape.jobs nodes (sym (as_many p shape.version [] (node_lines_of shape) nodes lines.items.nodes_are)) in

@@ -4,6 +4,7 @@ use Rattle.cr_model.specs.Problems.{ProblemParts}
 use Rattle.cr_model.specs.Checks.{IsFirstFailure}
 use Rattle.cr_store.specs.declared.fault.CheckFault.{CheckFault}
 use Rattle.cr_store.specs.Shapes.{ShapeParts, HasShape}
+use Rattle.cr_store.specs.Lines.{OutlineParts, outline_of}
 use Rattle.cr_store.specs.Faults.{HasProblem, HasLines, lengths_check, kept_check, order_check, item_checks, IsProblemFaultOf, IsUnread, OrNoMemory, FirstCheckFault}
 
 pub of_problem : (bytes : List ℕ) (shape : ShapeParts) (why : CheckFault) → HasShape bytes shape → IsProblemFaultOf shape.problem why → FirstCheckFault bytes why
@@ -13,7 +14,7 @@ pub of_line : (bytes : List ℕ) (shape : ShapeParts) (p : ProblemParts) (why : 
 of_line bytes shape p why problem wrong = subst (FirstCheckFault bytes) (sym wrong.1) (record { shape = shape; p = p; problem = problem; wrong = wrong.2 })
 
 pub of_items : (bytes : List ℕ) (shape : ShapeParts) (p : ProblemParts) (found nodes : List (List ℕ)) (why : CheckFault) → HasLines bytes shape p found nodes
-    → IsFirstFailure (item_checks p shape found nodes) why → FirstCheckFault bytes why
+    → IsFirstFailure (item_checks p (outline_of shape) found nodes) why → FirstCheckFault bytes why
 of_items bytes shape p found nodes why lines (inl long) =
     subst (FirstCheckFault bytes) (sym long.1) (record { shape = shape; p = p; found = found; nodes = nodes; lines = lines; wrong = inl (long.0, refl, long.2) })
 of_items bytes shape p found nodes why lines (inr (short, inl unkept)) =
@@ -25,13 +26,13 @@ of_items bytes shape p found nodes why lines (inr (short, inr (kept, inr (follow
 of_items bytes shape p found nodes why lines (inr (short, inr (kept, inr (follow, inr (apart, none))))) = absurd none
 
 -- the third of the checks of found touches and nodes is the first that fails
-pub third_fails : (p : ProblemParts) (shape : ShapeParts) (found nodes : List (List ℕ)) (why : CheckFault) → (lengths_check p shape found nodes).holds → (kept_check p shape found).holds
-    → OrNoMemory (order_check p shape found).fails why → OrNoMemory (IsFirstFailure (item_checks p shape found nodes)) why
-third_fails p shape found nodes why short kept (inl memory) = inl memory
-third_fails p shape found nodes why short kept (inr fails) = inr (inr (short, inr (kept, inl fails)))
+pub third_fails : (p : ProblemParts) (outline : OutlineParts) (found nodes : List (List ℕ)) (why : CheckFault) → (lengths_check p outline found nodes).holds → (kept_check p outline found).holds
+    → OrNoMemory (order_check p outline found).fails why → OrNoMemory (IsFirstFailure (item_checks p outline found nodes)) why
+third_fails p outline found nodes why short kept (inl memory) = inl memory
+third_fails p outline found nodes why short kept (inr fails) = inr (inr (short, inr (kept, inl fails)))
 
 -- a fault of found touches and nodes, if memory is left
 pub or_items : (bytes : List ℕ) (shape : ShapeParts) (p : ProblemParts) (found nodes : List (List ℕ)) (why : CheckFault) → HasLines bytes shape p found nodes
-    → OrNoMemory (IsFirstFailure (item_checks p shape found nodes)) why → OrNoMemory (FirstCheckFault bytes) why
+    → OrNoMemory (IsFirstFailure (item_checks p (outline_of shape) found nodes)) why → OrNoMemory (FirstCheckFault bytes) why
 or_items bytes shape p found nodes why lines (inl memory) = inl memory
 or_items bytes shape p found nodes why lines (inr wrong) = inr (of_items bytes shape p found nodes why lines wrong)

@@ -1,55 +1,49 @@
 -- Nodes cut into jobs, from the last.
-use Rattle.std.proofs.Common.{◌≡◌, ℕ, zero, suc, ◌+◌, ◌-◌, ◌<◌, ◌≤◌, List, [], ◌∷◌, ◌++◌, length, get_or, map, take, drop, reverse, flat_map, refl, sym, ap, ap₂, ◌∙◌, subst, arith, append_assoc, append-nil, length-append, take-append-drop}
+use Rattle.std.proofs.Common.{◌≡◌, ℕ, ◌+◌, ◌-◌, ◌<◌, ◌≤◌, List, [], ◌∷◌, ◌++◌, length, get_or, map, take, drop, reverse, refl, sym, ap, ap₂, ◌∙◌, subst, arith, append_assoc, append-nil, take-append-drop}
 use Rattle.std.specs.Global.{Vec}
-use Rattle.std.proofs.lemmas.List.{take_more, drop_more, take_all, length-take, length-drop, length-map, reverse-append, nil_from_length}
-use Rattle.std.proofs.lemmas.List.Concat.{flat_map-append}
+use Rattle.std.proofs.lemmas.List.{take_more, drop_more, take_all, drop_all, length-take, length-drop, reverse-append, nil_from_length}
 use Rattle.cr_model.specs.Checkpoints.{nodes_of_jobs}
-use Rattle.cr_store.specs.declared.shape.NodeLine.{NodeLine}
-use Rattle.cr_store.specs.Shapes.{NodeParts}
-use Rattle.cr_store.specs.ShapeReads.{job_parts}
-use Rattle.cr_store.specs.Reading.{lines_of_jobs}
+use Rattle.cr_store.specs.Lines.{in_all}
 use Rattle.cr_store.specs.Progress.{AreJobs}
 use Rattle.cr_store.specs.Written.{lists}
-use Rattle.cr_store.proofs.LineNumbers.{parts_long}
 
--- some nodes are left for the first lines, and the jobs of the lines after them have the others, the last job first
-pub record AreLastJobs (lines : List (List NodeParts)) (nodes : List (List ℕ)) (index : ℕ) (left : List (List ℕ)) (jobs : List (List (List ℕ))) : Type 0 where
-  pub low : index ≤ length lines
-  pub long : length left ≡ length (flat_map (λ job. job) (take index lines))
+all_joined : (xs ys : List ℕ) → in_all (xs ++ ys) ≡ in_all xs + in_all ys
+all_joined [] ys =
+    let whole : in_all ([] ++ ys) ≡ in_all ys = refl in
+    let none : in_all [] ≡ 0 = refl in
+    omega (arith, whole, none)
+all_joined (x ∷ xs) ys =
+    let whole : in_all ((x ∷ xs) ++ ys) ≡ x + in_all (xs ++ ys) = refl in
+    let front : in_all (x ∷ xs) ≡ x + in_all xs = refl in
+    omega (arith, whole, front, all_joined xs ys)
+
+-- some nodes are left for the first jobs, and the jobs after them have the others, the last job first
+pub record AreLastJobs (sizes : List ℕ) (nodes : List (List ℕ)) (index : ℕ) (left : List (List ℕ)) (jobs : List (List (List ℕ))) : Type 0 where
+  pub low : index ≤ length sizes
+  pub long : length left ≡ in_all (take index sizes)
   pub nodes_are : left ++ nodes_of_jobs (reverse jobs) ≡ nodes
-  pub lengths_are : map length (reverse jobs) ≡ map length (drop index lines)
+  pub lengths_are : map length (reverse jobs) ≡ drop index sizes
 
-module _ (lines : List (List NodeParts)) (nodes : List (List ℕ)) where
-  -- no job is cut before all lines
-  pub none_cut : length nodes ≡ length (flat_map (λ job. job) lines) → AreLastJobs lines nodes (length lines) nodes []
+module _ (sizes : List ℕ) (nodes : List (List ℕ)) where
+  -- no job is cut before all
+  pub none_cut : in_all sizes ≡ length nodes → AreLastJobs sizes nodes (length sizes) nodes []
   none_cut long = record {
     low = omega arith;
-    long = long ∙ ap (λ ls. length (flat_map (λ job. job) ls)) (sym (take_all (length lines) lines (omega arith)));
+    long = sym long ∙ ap in_all (sym (take_all (length sizes) sizes (omega arith)));
     nodes_are = append-nil nodes;
-    lengths_are = sym (ap (map length) (drop_end lines));
+    lengths_are = sym (drop_all (length sizes) sizes (omega arith));
   }
-    where
-      drop_end : (ls : List (List NodeParts)) → drop (length ls) ls ≡ []
-      drop_end [] = refl
-      drop_end (line ∷ ls) = drop_end ls
 
-  -- the last lines before some
-  last_long : (index : ℕ) (left : List (List ℕ)) (jobs : List (List (List ℕ))) → index < length lines → AreLastJobs lines nodes (index + 1) left jobs
-      → length left ≡ length (flat_map (λ job. job) (take index lines)) + length (get_or lines index [])
+  -- the nodes of the last job before some
+  last_long : (index : ℕ) (left : List (List ℕ)) (jobs : List (List (List ℕ))) → index < length sizes → AreLastJobs sizes nodes (index + 1) left jobs
+      → length left ≡ in_all (take index sizes) + get_or sizes index 0
   last_long index left jobs inside are =
-      let line = get_or lines index [] in
-      are.long ∙ ap (λ ls. length (flat_map (λ job. job) ls)) (take_more lines index [] inside)
-      ∙ ap length (flat_map-append (λ job. job) (take index lines) (line ∷ []))
-      ∙ length-append (flat_map (λ job. job) (take index lines)) (line ++ []) ∙ ap (λ l. length (flat_map (λ job. job) (take index lines)) + length l) (append-nil line)
+      let whole = are.long ∙ ap in_all (take_more sizes index 0 inside) ∙ all_joined (take index sizes) (get_or sizes index 0 ∷ []) in
+      omega (arith, whole)
 
-  pub last_fits : (index : ℕ) (left : List (List ℕ)) (jobs : List (List (List ℕ))) → index < length lines → AreLastJobs lines nodes (index + 1) left jobs
-      → length (get_or lines index []) ≤ length left
-  last_fits index left jobs inside are = omega (arith, last_long index left jobs inside are)
-
-  pub one_cut : (index : ℕ) (left : List (List ℕ)) (jobs : List (List (List ℕ))) (at : ℕ) → index < length lines → AreLastJobs lines nodes (index + 1) left jobs
-      → at + length (get_or lines index []) ≡ length left → AreLastJobs lines nodes index (take at left) (jobs ++ drop at left ∷ [])
+  one_cut : (index : ℕ) (left : List (List ℕ)) (jobs : List (List (List ℕ))) (at : ℕ) → index < length sizes → AreLastJobs sizes nodes (index + 1) left jobs
+      → at + get_or sizes index 0 ≡ length left → AreLastJobs sizes nodes index (take at left) (jobs ++ drop at left ∷ [])
   one_cut index left jobs at inside are place =
-      let line = get_or lines index [] in
       let turned : reverse (jobs ++ drop at left ∷ []) ≡ drop at left ∷ reverse jobs = reverse-append jobs (drop at left ∷ []) in
       record {
         low = omega arith;
@@ -59,11 +53,11 @@ module _ (lines : List (List NodeParts)) (nodes : List (List ℕ)) where
             ∙ ap (λ l. l ++ nodes_of_jobs (reverse jobs)) (take-append-drop at left) ∙ are.nodes_are;
         lengths_are = ap (map length) turned
             ∙ ap₂ ◌∷◌ (omega (arith, place, length-drop at left)) are.lengths_are
-            ∙ sym (ap (map length) (drop_more lines index [] inside));
+            ∙ sym (drop_more sizes index 0 inside);
       }
 
   -- all jobs are cut
-  pub all_cut : (left : List (List ℕ)) (jobs : List (List (List ℕ))) → AreLastJobs lines nodes 0 left jobs → AreJobs lines nodes (reverse jobs)
+  pub all_cut : (left : List (List ℕ)) (jobs : List (List (List ℕ))) → AreLastJobs sizes nodes 0 left jobs → AreJobs sizes nodes (reverse jobs)
   all_cut left jobs are = record {
     nodes_are = ap (λ l. l ++ nodes_of_jobs (reverse jobs)) (sym (nil_from_length left are.long)) ∙ are.nodes_are;
     lengths_are = are.lengths_are;
@@ -79,32 +73,23 @@ lists_turned [] = refl
 lists_turned (job ∷ jobs) =
     ap lists (reverse-append (job ∷ []) jobs) ∙ lists_more (reverse jobs) job ∙ ap (λ l. l ++ job.items ∷ []) (lists_turned jobs) ∙ sym (reverse-append (job.items ∷ []) (lists jobs))
 
--- the number of lines of a job
-line_at : (jobs : List (Vec NodeLine)) (i : ℕ) (job : Vec NodeLine) → i < length jobs → job ≡ get_or jobs i job → length (get_or (lines_of_jobs jobs) i []) ≡ length job.items
-line_at [] i job inside is = absurd (omega arith)
-line_at (first ∷ jobs) zero job inside is = parts_long first ∙ ap (λ j. length j.items) (sym is)
-line_at (first ∷ jobs) (suc i) job inside is = line_at jobs i job (omega arith) is
-
-module _ (lines : List (Vec NodeLine)) (nodes : List (List ℕ)) (index : ℕ) (job : Vec NodeLine) (left : List (List ℕ)) (old : List (Vec (List ℕ)))
-    (some : 0 < index) (is : job ≡ get_or lines (index - 1) job) (are : AreLastJobs (lines_of_jobs lines) nodes index left (lists old)) where
-  inside : index - 1 < length (lines_of_jobs lines)
+module _ (sizes : List ℕ) (nodes : List (List ℕ)) (index : ℕ) (left : List (List ℕ)) (old : List (Vec (List ℕ))) (some : 0 < index)
+    (are : AreLastJobs sizes nodes index left (lists old)) where
+  inside : index - 1 < length sizes
   inside = omega (arith, are.low)
 
-  within : index - 1 < length lines
-  within = omega (arith, are.low, length-map lines job_parts)
-
-  before : AreLastJobs (lines_of_jobs lines) nodes (index - 1 + 1) left (lists old)
-  before = let same : index ≡ index - 1 + 1 = omega arith in subst (λ i. AreLastJobs (lines_of_jobs lines) nodes i left (lists old)) same are
+  before : AreLastJobs sizes nodes (index - 1 + 1) left (lists old)
+  before = let same : index ≡ index - 1 + 1 = omega arith in subst (λ i. AreLastJobs sizes nodes i left (lists old)) same are
 
   -- the last job has no more nodes than are left
-  pub job_is_left : length job.items ≤ length left
-  job_is_left = omega (arith, line_at lines (index - 1) job within is, last_fits (lines_of_jobs lines) nodes (index - 1) left (lists old) inside before)
+  pub job_is_left : get_or sizes (index - 1) 0 ≤ length left
+  job_is_left = omega (arith, last_long sizes nodes (index - 1) left (lists old) inside before)
 
   -- and is cut off
-  pub job_is_cut : (at : ℕ) (rest : List (List ℕ)) (tail : Vec (List ℕ)) (new : List (Vec (List ℕ))) → at ≡ length left - length job.items → rest ≡ take at left
-      → tail.items ≡ drop at left → new ≡ old ++ tail ∷ [] → AreLastJobs (lines_of_jobs lines) nodes (index - 1) rest (lists new)
+  pub job_is_cut : (at : ℕ) (rest : List (List ℕ)) (tail : Vec (List ℕ)) (new : List (Vec (List ℕ))) → at ≡ length left - get_or sizes (index - 1) 0 → rest ≡ take at left
+      → tail.items ≡ drop at left → new ≡ old ++ tail ∷ [] → AreLastJobs sizes nodes (index - 1) rest (lists new)
   job_is_cut at rest tail new place rest_is tail_is new_is =
-      let cut = one_cut (lines_of_jobs lines) nodes (index - 1) left (lists old) at inside before (omega (arith, place, line_at lines (index - 1) job within is, job_is_left)) in
+      let cut = one_cut sizes nodes (index - 1) left (lists old) at inside before (omega (arith, place, job_is_left)) in
       let jobs : lists new ≡ lists old ++ drop at left ∷ [] = ap lists new_is ∙ lists_more old tail ∙ ap (λ l. lists old ++ l ∷ []) tail_is in
-      subst (λ js. AreLastJobs (lines_of_jobs lines) nodes (index - 1) rest js) (sym jobs)
-      (subst (λ r. AreLastJobs (lines_of_jobs lines) nodes (index - 1) r (lists old ++ drop at left ∷ [])) (sym rest_is) cut)
+      subst (λ js. AreLastJobs sizes nodes (index - 1) rest js) (sym jobs)
+      (subst (λ r. AreLastJobs sizes nodes (index - 1) r (lists old ++ drop at left ∷ [])) (sym rest_is) cut)

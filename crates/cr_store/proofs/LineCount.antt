@@ -1,5 +1,5 @@
 -- A text has no more lines than bytes.
-use Rattle.std.proofs.Common.{◌≡◌, ℕ, ◌+◌, ◌^◌, ◌<◌, ◌≤◌, Bool, true, false, cond, nat_eq, List, [], ◌∷◌, ◌++◌, length, flat_map, codes, decimal, ap, ◌∙◌, arith, length-append}
+use Rattle.std.proofs.Common.{◌≡◌, ℕ, ◌+◌, ◌^◌, ◌<◌, ◌≤◌, Bool, true, false, cond, nat_eq, List, [], ◌∷◌, ◌++◌, length, map, flat_map, codes, decimal, ap, ◌∙◌, arith, length-append}
 use Rattle.std.proofs.lemmas.List.Sums.{count_by-le-length}
 use Rattle.cr_model.specs.Checkpoints.{number_line}
 use Rattle.cr_store.specs.Shapes.{FoundParts, NodeParts, ShapeParts, found_text, node_text, job_text, HasShape, found_line}
@@ -27,7 +27,7 @@ module _ (version : ℕ) where
   long_nodes [] = omega arith
   long_nodes (node ∷ nodes) = omega (arith, long_node node, length-append (node_text version node) (flat_map (node_text version) nodes), long_nodes nodes)
 
-  long_jobs : (line : ℕ) (jobs : List (List NodeParts)) → last_after line jobs ≤ line + length (flat_map (job_text version) jobs)
+  long_jobs : (line : ℕ) (jobs : List (List NodeParts)) → last_after line (map length jobs) ≤ line + length (flat_map (job_text version) jobs)
   long_jobs line [] = omega arith
   long_jobs line (job ∷ jobs) =
       omega (

@@ -1,5 +1,5 @@
 -- Lines stand on the lines of their numbers.
-use Rattle.std.proofs.Common.{◌≡◌, ℕ, ◌+◌, ◌-◌, ◌<◌, List, [], ◌∷◌, ◌++◌, length, get_or, take, drop, flat_map, codes, All, inl, inr, refl, sym, ap, ◌∙◌, arith, append_assoc, length-append, take-append-drop}
+use Rattle.std.proofs.Common.{◌≡◌, ℕ, ◌+◌, ◌-◌, ◌<◌, List, [], ◌∷◌, ◌++◌, length, get_or, map, take, drop, flat_map, codes, All, inl, inr, refl, sym, ap, ◌∙◌, arith, append_assoc, length-append, take-append-drop}
 use Rattle.std.proofs.lemmas.Bool.{cases_lt}
 use Rattle.std.proofs.lemmas.List.{drop_more, length-take, get_or_append_left, get_or-append_right}
 use Rattle.std.proofs.lemmas.List.Concat.{flat_map-append}
@@ -7,7 +7,7 @@ use Rattle.std.proofs.lemmas.List.Elements.{All-head, All-tail, All-take}
 use Rattle.cr_model.specs.Checkpoints.{number_line}
 use Rattle.cr_model.specs.Texts.{IsNumber}
 use Rattle.cr_store.specs.Shapes.{FoundParts, NodeParts, ShapeParts, IsFoundLine, IsNodeLine, IsJobLines, IsShape, found_text, node_text, job_text, HasShape, line_feeds, found_line}
-use Rattle.cr_store.specs.Lines.{node_lines_of, node_numbers, line_of, StandsOn}
+use Rattle.cr_store.specs.Lines.{outline_of, node_lines_of, node_numbers, line_of, StandsOn}
 use Rattle.cr_store.specs.Reading.{touch_line_at, node_line_at}
 use Rattle.cr_store.proofs.ShapeBytes.{feeds_joined, feeds_lacking}
 use Rattle.cr_store.proofs.ShapeBodies.{found_lacks, node_lacks, node_ends}
@@ -59,7 +59,7 @@ module _ (version : ℕ) where
     front : List ℕ
     rest : List ℕ
     is : flat_map (job_text version) jobs ≡ front ++ (node_text version (node_line_at (flat_map (λ job. job) jobs) node) ++ rest)
-    number_is : get_or (node_numbers line jobs) node 0 ≡ line + line_feeds front
+    number_is : get_or (node_numbers line (map length jobs)) node 0 ≡ line + line_feeds front
 
   -- in the first job
   in_job : (line : ℕ) (job : List NodeParts) (jobs : List (List NodeParts)) (node : ℕ) → IsJobLines version job → node < length job → StandsIn line (job ∷ jobs) node
@@ -78,7 +78,7 @@ module _ (version : ℕ) where
         is = ap (λ l. count ++ l ++ others) (split_at (node_text version) job node (record { shared = 0; steps = [] }) inside)
             ∙ regroup count before here after others
             ∙ ap (λ l. count ++ before ++ (node_text version l ++ (after ++ others))) (sym same);
-        number_is = in_first line job jobs node inside ∙ omega (arith, feeds_joined count before, job_count_feeds job is, feeds);
+        number_is = in_first line (length job) (map length jobs) node inside ∙ omega (arith, feeds_joined count before, job_count_feeds job is, feeds);
       }
     where
       regroup : (a b c d e : List ℕ) → a ++ (b ++ (c ++ d)) ++ e ≡ a ++ b ++ (c ++ (d ++ e))
@@ -100,7 +100,7 @@ module _ (version : ℕ) where
           rest = later.rest;
           is = ap (λ l. job_text version job ++ l) later.is ∙ sym (append_assoc (job_text version job) later.front (text ++ later.rest))
               ∙ ap (λ l. job_text version job ++ later.front ++ (node_text version l ++ later.rest)) (sym same);
-          number_is = in_others line job jobs node past ∙ later.number_is
+          number_is = in_others line (length job) (map length jobs) node past ∙ later.number_is
               ∙ omega (arith, feeds_joined (job_text version job) later.front, job_feeds job (All-head (IsJobLines version) job jobs are));
         }
   ]
@@ -143,7 +143,7 @@ module _ (text : List ℕ) (s : ShapeParts) (has : HasShape text s) where
         rest = after ++ (count ++ (jobs ++ codes "end\n"));
         is = has.is ∙ ap (λ l. head ++ l ++ count ++ jobs ++ codes "end\n") (split_at found_text s.found i (record { length = 0; calling = [] }) inside)
             ∙ regroup head before here after count jobs (codes "end\n");
-        number_is = of_touch s i inside ∙ omega (arith, feeds_joined head before, head_feeds, feeds);
+        number_is = of_touch (outline_of s) i inside ∙ omega (arith, feeds_joined head before, head_feeds, feeds);
       }
     where
       regroup : (a b c d e f g : List ℕ) → a ++ (b ++ (c ++ d)) ++ e ++ f ++ g ≡ a ++ b ++ (c ++ (d ++ (e ++ (f ++ g))))
@@ -161,7 +161,7 @@ module _ (text : List ℕ) (s : ShapeParts) (has : HasShape text s) where
         front = head ++ found ++ count ++ at.front;
         rest = at.rest ++ codes "end\n";
         is = has.is ∙ ap (λ l. head ++ found ++ count ++ l ++ codes "end\n") at.is ∙ regroup (head ++ found ++ count) at.front here at.rest (codes "end\n");
-        number_is = of_node s (length s.found + i) (omega arith) ∙ ap (λ k. get_or (node_numbers (found_line s + length s.found + 2) s.jobs) k 0) place ∙ at.number_is
+        number_is = of_node (outline_of s) (length s.found + i) (omega arith) ∙ ap (λ k. get_or (node_numbers (found_line s + length s.found + 2) (map length s.jobs)) k 0) place ∙ at.number_is
             ∙ omega (
               arith,
               feeds_joined (head ++ found ++ count) at.front,

@@ -13,7 +13,7 @@ use Rattle.cr_store.specs.declared.fault.CheckFault.{CheckFault}
 use Rattle.cr_store.specs.declared.fault.CheckFault.TheVariants as fault
 use Rattle.cr_store.specs.Shapes.{ShapeParts, HasShape}
 use Rattle.cr_store.specs.ShapeFaults.{IsFormFault}
-use Rattle.cr_store.specs.Lines.{node_lines_of, line_of, HasItems, CanBeRead}
+use Rattle.cr_store.specs.Lines.{outline_of, node_lines_of, line_of, HasItems, CanBeRead}
 use Rattle.cr_store.specs.Faults.{IsShortNode, IsKeptAt, Follows, overlap_check, item_checks, IsProblemFaultOf, IsUnread, FirstCheckFault}
 use Rattle.cr_store.specs.Progress.{Progress}
 use Rattle.cr_store.proofs.StepTexts.{OneCalling}
@@ -39,7 +39,7 @@ record ItemsWrong (p : ProblemParts) (shape : ShapeParts) (why : CheckFault) : T
   found : List (List ℕ)
   nodes : List (List ℕ)
   has : HasItems p shape found nodes
-  wrong : IsFirstFailure (item_checks p shape found nodes) why
+  wrong : IsFirstFailure (item_checks p (outline_of shape) found nodes) why
 
 -- a problem's lines that are wrong
 record LinesWrong (shape : ShapeParts) (why : CheckFault) : Type 0 where
@@ -95,7 +95,7 @@ same_parts c other bytes problem found jobs =
 
 module _ (laws : Laws) where
   -- each of the checks of found touches and nodes
-  exact : (p : ProblemParts) (shape : ShapeParts) (found nodes : List (List ℕ)) → AreExact (item_checks p shape found nodes)
+  exact : (p : ProblemParts) (shape : ShapeParts) (found nodes : List (List ℕ)) → AreExact (item_checks p (outline_of shape) found nodes)
   exact p shape found nodes = (
     exact_each_index (IsShortNode p nodes) (length nodes) (λ i. fault.NodeLong (line_of shape (length found + i))),
     (
@@ -107,7 +107,7 @@ module _ (laws : Laws) where
     ),
   )
     where
-      overlaps : IsExact (overlap_check p shape found nodes)
+      overlaps : IsExact (overlap_check p (outline_of shape) found nodes)
       overlaps = record {
         apart = λ f h holds. laws.no_overlap (items p found nodes) h.0 h.1 ((laws.apart p found nodes).0 holds) h.3;
         single = λ f g a b.
@@ -122,8 +122,8 @@ module _ (laws : Laws) where
     items_one : (f g : CheckFault) → ItemsWrong p shape f → ItemsWrong p shape g → f ≡ g
     items_one f g a b =
         let (found, nodes) = one_items p sound one_call shape b.found b.nodes a.found a.nodes b.has a.has in
-        one_failure (item_checks p shape a.found a.nodes) (exact p shape a.found a.nodes) f g a.wrong
-        (subst (λ ns. IsFirstFailure (item_checks p shape a.found ns) g) nodes (subst (λ fs. IsFirstFailure (item_checks p shape fs b.nodes) g) found b.wrong))
+        one_failure (item_checks p (outline_of shape) a.found a.nodes) (exact p shape a.found a.nodes) f g a.wrong
+        (subst (λ ns. IsFirstFailure (item_checks p (outline_of shape) a.found ns) g) nodes (subst (λ fs. IsFirstFailure (item_checks p (outline_of shape) fs b.nodes) g) found b.wrong))
 
     -- lines that are those of touches and nodes have no first that is not
     all_are_read : (f : CheckFault) (found nodes : List (List ℕ)) → IsUnread p shape f → HasItems p shape found nodes → ⊥
@@ -138,13 +138,13 @@ module _ (laws : Laws) where
     lines_one f g (inr a) (inr b) = items_one f g a b
 
     -- a checkpoint has no such fault
-    none_wrong : (c : Progress) (f : CheckFault) (found nodes : List (List ℕ)) → HasItems p shape found nodes → AllHold (item_checks p shape found nodes)
+    none_wrong : (c : Progress) (f : CheckFault) (found nodes : List (List ℕ)) → HasItems p shape found nodes → AllHold (item_checks p (outline_of shape) found nodes)
         → IsUnread p shape f ⊎ ItemsWrong p shape f → ⊥
     none_wrong c f found nodes has hold (inl a) = all_are_read f found nodes a has
     none_wrong c f found nodes has hold (inr a) =
         let (founds, rest) = one_items p sound one_call shape a.found a.nodes found nodes a.has has in
-        none_fails (item_checks p shape found nodes) (exact p shape found nodes) f hold
-        (subst (λ ns. IsFirstFailure (item_checks p shape found ns) f) rest (subst (λ fs. IsFirstFailure (item_checks p shape fs a.nodes) f) founds a.wrong))
+        none_fails (item_checks p (outline_of shape) found nodes) (exact p shape found nodes) f hold
+        (subst (λ ns. IsFirstFailure (item_checks p (outline_of shape) found ns) f) rest (subst (λ fs. IsFirstFailure (item_checks p (outline_of shape) fs a.nodes) f) founds a.wrong))
 
   held_one : (shape : ShapeParts) (f g : CheckFault) → IsProblemFaultOf shape.problem f ⊎ LinesWrong shape f → IsProblemFaultOf shape.problem g ⊎ LinesWrong shape g → f ≡ g
   held_one shape f g (inl a) (inl b) = a.1 ∙ ap fault.Problem (laws.one_wrong shape.problem a.0 b.0 a.2 b.2) ∙ sym b.1

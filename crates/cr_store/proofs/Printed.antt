@@ -15,7 +15,7 @@ use Rattle.cr_model.specs.Checkpoints.{CheckFile, number_line, steps_text, steps
 use Rattle.cr_model.specs.Checks.{AllHold}
 use Rattle.cr_model.specs.Sound.{IsSound, sound_leads, sound_letters}
 use Rattle.cr_store.specs.Shapes.{FoundParts, NodeParts, ShapeParts, is_letter, AreLetters, AreSteps, IsFoundLine, IsNodeLine, IsJobLines, HasShape}
-use Rattle.cr_store.specs.Lines.{left_out, IsTouchOf, IsNodeOf, AreNodesOf, HasItems}
+use Rattle.cr_store.specs.Lines.{outline_of, left_out, IsTouchOf, IsNodeOf, AreNodesOf, HasItems}
 use Rattle.cr_store.specs.Faults.{item_checks}
 use Rattle.cr_store.specs.Progress.{Progress, AreJobs}
 use Rattle.cr_store.proofs.Shortness.{few_leads, few_steps, cap_few}
@@ -225,8 +225,8 @@ pub record IsPrinted (bytes : List ℕ) (c : Progress) : Type 0 where
   pub shape_is : HasShape bytes shape
   pub bytes_are : shape.problem ≡ c.bytes
   pub items : HasItems c.problem shape c.found (nodes_of_jobs c.jobs)
-  pub jobs : AreJobs shape.jobs (nodes_of_jobs c.jobs) c.jobs
-  pub hold : AllHold (item_checks c.problem shape c.found (nodes_of_jobs c.jobs))
+  pub jobs : AreJobs (map length shape.jobs) (nodes_of_jobs c.jobs) c.jobs
+  pub hold : AllHold (item_checks c.problem (outline_of shape) c.found (nodes_of_jobs c.jobs))
 
 module _ (bytes : List ℕ) (c : Progress) (few : length bytes < 2 ^ 63) (file : CheckFile bytes c.bytes c.problem c.found c.jobs) where
   with_version : (version : ℕ) → (version ≡ 1) ⊎ (version ≡ 2) → bytes ≡ versioned_text c.problem version c.bytes c.found c.jobs → IsPrinted bytes c
@@ -240,7 +240,7 @@ module _ (bytes : List ℕ) (c : Progress) (few : length bytes < 2 ^ 63) (file :
       (number_line (codes "found") (length c.found)) found (number_line (codes "jobs") (length c.jobs)) jobs (codes "end\n") in
       let shape : ShapeParts = shape_of p version c.bytes c.found c.jobs in
       let has : HasItems p shape c.found (nodes_of_jobs c.jobs) = record { touches_are = touches_are p sound c.found goes.kept; nodes_are = jobs_are p sound version [] c.jobs goes.valid } in
-      let are : AreJobs shape.jobs (nodes_of_jobs c.jobs) c.jobs = record { nodes_are = refl; lengths_are = lengths_are p sound version [] c.jobs } in
+      let are : AreJobs (map length shape.jobs) (nodes_of_jobs c.jobs) c.jobs = record { nodes_are = refl; lengths_are = lengths_are p sound version [] c.jobs } in
       record {
         shape = shape;
         shape_is = record {

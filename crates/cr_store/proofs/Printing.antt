@@ -78,7 +78,7 @@ module _ (p : ProblemParts) where
       ++ number_line (codes "problem") (length bytes) ++ bytes ++ codes "\n"
       ++ number_line (codes "found") touches ++ found ++ number_line (codes "jobs") number ++ jobs ++ codes "end\n"
 
-  pub printed : (shape : ShapeParts) (found nodes : List (List ℕ)) (jobs : List (List (List ℕ))) → HasItems p shape found nodes → AreJobs shape.jobs nodes jobs
+  pub printed : (shape : ShapeParts) (found nodes : List (List ℕ)) (jobs : List (List (List ℕ))) → HasItems p shape found nodes → AreJobs (map length shape.jobs) nodes jobs
       → shape_text shape ≡ versioned_text p shape.version shape.problem found jobs
   printed shape found nodes jobs has are =
       let text = text_from shape.version shape.problem in

@@ -15,7 +15,7 @@ use Rattle.cr_store.specs.declared.fault.CheckFault.{CheckFault}
 use Rattle.cr_store.specs.declared.fault.CheckFault.TheVariants as fault
 use Rattle.cr_store.specs.Shapes.{ShapeParts, HasShape}
 use Rattle.cr_store.specs.ShapeFaults.{IsFormFault}
-use Rattle.cr_store.specs.Lines.{node_lines_of, line_of, HasItems, CanBeRead}
+use Rattle.cr_store.specs.Lines.{OutlineParts, outline_of, node_lines_of, line_at, line_of, HasItems, CanBeRead}
 
 -- a node is no longer than a part may be
 abbrev pub IsShortNode : ProblemParts → List (List ℕ) → ℕ → Type 0
@@ -30,27 +30,27 @@ abbrev pub Follows : ProblemParts → List (List ℕ) → ℕ → Type 0
 Follows p found i = (before : ℕ) → before + 1 ≡ i → book_order p (get_or found before []) (get_or found i []) ≡ Less
 
 -- The checks of found touches and nodes, in their order. Their faults tell lines.
-abbrev pub lengths_check : ProblemParts → ShapeParts → List (List ℕ) → List (List ℕ) → Check CheckFault
-lengths_check p shape found nodes = each_index (IsShortNode p nodes) (length nodes) (λ i. fault.NodeLong (line_of shape (length found + i)))
+abbrev pub lengths_check : ProblemParts → OutlineParts → List (List ℕ) → List (List ℕ) → Check CheckFault
+lengths_check p outline found nodes = each_index (IsShortNode p nodes) (length nodes) (λ i. fault.NodeLong (line_at outline (length found + i)))
 
-abbrev pub kept_check : ProblemParts → ShapeParts → List (List ℕ) → Check CheckFault
-kept_check p shape found = each_index (IsKeptAt p found) (length found) (λ i. fault.NotKept (line_of shape i))
+abbrev pub kept_check : ProblemParts → OutlineParts → List (List ℕ) → Check CheckFault
+kept_check p outline found = each_index (IsKeptAt p found) (length found) (λ i. fault.NotKept (line_at outline i))
 
-abbrev pub order_check : ProblemParts → ShapeParts → List (List ℕ) → Check CheckFault
-order_check p shape found = each_index (Follows p found) (length found) (λ i. fault.FoundOrder (line_of shape i))
+abbrev pub order_check : ProblemParts → OutlineParts → List (List ℕ) → Check CheckFault
+order_check p outline found = each_index (Follows p found) (length found) (λ i. fault.FoundOrder (line_at outline i))
 
-abbrev pub overlap_check : ProblemParts → ShapeParts → List (List ℕ) → List (List ℕ) → Check CheckFault
-overlap_check p shape found nodes = record {
+abbrev pub overlap_check : ProblemParts → OutlineParts → List (List ℕ) → List (List ℕ) → Check CheckFault
+overlap_check p outline found nodes = record {
   holds = Independent p found nodes;
-  fails = λ why. (i j : ℕ) × (why ≡ fault.Overlap (line_of shape i) (line_of shape j)) × IsFirstOverlap (items p found nodes) i j;
+  fails = λ why. (i j : ℕ) × (why ≡ fault.Overlap (line_at outline i) (line_at outline j)) × IsFirstOverlap (items p found nodes) i j;
 }
 
-abbrev pub item_checks : ProblemParts → ShapeParts → List (List ℕ) → List (List ℕ) → List (Check CheckFault)
-item_checks p shape found nodes =
-    lengths_check p shape found nodes
-    ∷ kept_check p shape found
-    ∷ order_check p shape found
-    ∷ overlap_check p shape found nodes
+abbrev pub item_checks : ProblemParts → OutlineParts → List (List ℕ) → List (List ℕ) → List (Check CheckFault)
+item_checks p outline found nodes =
+    lengths_check p outline found nodes
+    ∷ kept_check p outline found
+    ∷ order_check p outline found
+    ∷ overlap_check p outline found nodes
     ∷ []
 
 -- the bytes have a shape, whose problem's bytes are a problem file
@@ -88,7 +88,7 @@ pub record IsItemWrong (bytes : List ℕ) (why : CheckFault) : Type 0 where
   pub found : List (List ℕ)
   pub nodes : List (List ℕ)
   pub lines : HasLines bytes shape p found nodes
-  pub wrong : IsFirstFailure (item_checks p shape found nodes) why
+  pub wrong : IsFirstFailure (item_checks p (outline_of shape) found nodes) why
 
 -- the fault is that of the first check that does not hold
 abbrev pub FirstCheckFault : List ℕ → CheckFault → Type 0

@@ -1,5 +1,5 @@
 -- What the lines of a checkpoint say of a problem, and their numbers.
-use Rattle.std.specs.Prelude.{◌≡◌, ℕ, ◌+◌, ◌-◌, ◌≤◌, nat_eq, nat_abs, cond, codes, List, [], ◌∷◌, ◌++◌, length, get_or, take, drop, flat_map}
+use Rattle.std.specs.Prelude.{◌≡◌, ℕ, ◌+◌, ◌-◌, ◌≤◌, nat_eq, nat_abs, cond, codes, List, [], ◌∷◌, ◌++◌, length, get_or, take, drop, map, flat_map}
 use Rattle.std.specs.List.{range_with_len, AllZip}
 use Rattle.cr_model.specs.Problems.{ProblemParts}
 use Rattle.cr_model.specs.Callings.{HasSteps, length_of}
@@ -13,28 +13,51 @@ use Rattle.cr_store.specs.Shapes.{FoundParts, NodeParts, ShapeParts, line_feeds,
 abbrev pub node_lines_of : ShapeParts → List NodeParts
 node_lines_of shape = flat_map (λ job. job) shape.jobs
 
--- the numbers of the node lines of jobs, of which the first has its own line at a number
-abbrev pub node_numbers : ℕ → List (List NodeParts) → List ℕ
+-- of the lines of a checkpoint, how many there are: the number of the line `found`, and below it so many found touches
+-- and jobs of so many nodes
+pub record OutlineParts : Type 0 where
+  pub found_at : ℕ
+  pub touches : ℕ
+  pub sizes : List ℕ
+
+abbrev pub outline_of : ShapeParts → OutlineParts
+outline_of shape = record { found_at = found_line shape; touches = length shape.found; sizes = map length shape.jobs }
+
+-- how many nodes jobs of these sizes have in all
+abbrev pub in_all : List ℕ → ℕ
+in_all [] = 0
+in_all (size ∷ sizes) = size + in_all sizes
+
+-- the numbers of the node lines of jobs of these sizes, of which the first has its own line at a number
+abbrev pub node_numbers : ℕ → List ℕ → List ℕ
 node_numbers line [] = []
-node_numbers line (job ∷ jobs) = range_with_len (line + 1) (length job) ++ node_numbers (line + 1 + length job) jobs
+node_numbers line (size ∷ sizes) = range_with_len (line + 1) size ++ node_numbers (line + 1 + size) sizes
 
 -- the numbers of the lines of found touches and then of nodes
-abbrev pub item_numbers : ShapeParts → List ℕ
-item_numbers shape = range_with_len (found_line shape + 1) (length shape.found)
-    ++ node_numbers (found_line shape + length shape.found + 2) shape.jobs
+abbrev pub numbers_in : OutlineParts → List ℕ
+numbers_in outline = range_with_len (outline.found_at + 1) outline.touches ++ node_numbers (outline.found_at + outline.touches + 2) outline.sizes
 
--- the number of the line after jobs, of which the first has its own line at a number
-abbrev pub last_after : ℕ → List (List NodeParts) → ℕ
+abbrev pub item_numbers : ShapeParts → List ℕ
+item_numbers shape = numbers_in (outline_of shape)
+
+-- the number of the line after jobs of these sizes, of which the first has its own line at a number
+abbrev pub last_after : ℕ → List ℕ → ℕ
 last_after line [] = line
-last_after line (job ∷ jobs) = last_after (line + 1 + length job) jobs
+last_after line (size ∷ sizes) = last_after (line + 1 + size) sizes
 
 -- the number of the last line, `end`
+abbrev pub last_in : OutlineParts → ℕ
+last_in outline = last_after (outline.found_at + outline.touches + 2) outline.sizes
+
 abbrev pub last_line : ShapeParts → ℕ
-last_line shape = last_after (found_line shape + length shape.found + 2) shape.jobs
+last_line shape = last_in (outline_of shape)
 
 -- the number of the line of a touch or node, where found touches and then nodes are numbered from 0
+abbrev pub line_at : OutlineParts → ℕ → ℕ
+line_at outline item = get_or (numbers_in outline) item 0
+
 abbrev pub line_of : ShapeParts → ℕ → ℕ
-line_of shape item = get_or (item_numbers shape) item 0
+line_of shape item = line_at (outline_of shape) item
 
 -- the line is that of a found touch: its length, its calling, and that is as many equal words as the query has parts
 pub record IsTouchOf (p : ProblemParts) (line : FoundParts) (touch : List ℕ) : Type 0 where

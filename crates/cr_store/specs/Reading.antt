@@ -1,5 +1,5 @@
 -- What reading lines tells.
-use Rattle.std.specs.Prelude.{◌≡◌, ℕ, ◌^◌, ◌<◌, ◌≤◌, Bool, true, false, List, [], ◌++◌, length, get_or, take, map, Option, Some, None}
+use Rattle.std.specs.Prelude.{◌≡◌, ℕ, ◌^◌, ◌<◌, ◌≤◌, Bool, true, false, List, [], ◌++◌, length, get_or, take, map, All, Option, Some, None}
 use Rattle.std.specs.Global.{Vec}
 use Rattle.std.specs.List.{AllZip}
 use Rattle.cr_model.specs.Problems.{ProblemParts}
@@ -7,21 +7,26 @@ use Rattle.cr_model.specs.Callings.{HasSteps}
 use Rattle.cr_model.specs.Limits.{most_leads}
 use Rattle.cr_model.specs.Checkpoints.{steps_text, last_node}
 use Rattle.cr_book.specs.Readings.{IsCallingText}
+use Rattle.cr_store.specs.declared.outline.Outline.{Outline}
 use Rattle.cr_store.specs.declared.shape.NodeLine.{NodeLine}
-use Rattle.cr_store.specs.declared.shape.Shape.{Shape}
-use Rattle.cr_store.specs.Shapes.{FoundParts, NodeParts, IsShape, found_line}
-use Rattle.cr_store.specs.ShapeReads.{job_parts, shape_parts}
-use Rattle.cr_store.specs.Lines.{last_line, IsTouchOf, IsNodeOf, AreNodesOf}
+use Rattle.cr_store.specs.Shapes.{FoundParts, NodeParts}
+use Rattle.cr_store.specs.ShapeReads.{job_parts}
+use Rattle.cr_store.specs.Lines.{OutlineParts, in_all, last_in, IsTouchOf, IsNodeOf, AreNodesOf}
 
 -- what stands on the lines of jobs
 abbrev pub lines_of_jobs : List (Vec NodeLine) → List (List NodeParts)
 lines_of_jobs jobs = map job_parts jobs
 
--- the parts of a shape that was read, with the number of the line `found` and fewer than 2^64 lines
-pub record IsRead (shape : Shape) : Type 0 where
-  pub shape_is : IsShape (shape_parts shape)
-  pub found_at : shape.found_at ≡ found_line (shape_parts shape)
-  pub few : last_line (shape_parts shape) < 2 ^ 64
+abbrev pub outline_parts : Outline → OutlineParts
+outline_parts outline = record { found_at = outline.found_at; touches = outline.touches; sizes = outline.sizes.items }
+
+-- found touches and nodes of a problem, as many as an outline has, of fewer than 2^64 lines
+pub record AreOutlined (p : ProblemParts) (outline : OutlineParts) (found nodes : List (List ℕ)) : Type 0 where
+  pub few : last_in outline < 2 ^ 64
+  pub as_many_touches : outline.touches ≡ length found
+  pub as_many_nodes : in_all outline.sizes ≡ length nodes
+  pub touches_known : All (HasSteps p) found
+  pub nodes_known : All (HasSteps p) nodes
 
 -- the calling of a text, or that it is that of none
 abbrev pub TellsCalling : ProblemParts → List ℕ → Option (List ℕ) → Type 0

@@ -1,13 +1,11 @@
 //! Checkpoints read whole.
 
-ghost use Rattle.std.specs.Prelude.{◌≡◌, ◌≢◌, ◌⊎◌, length, flat_map, Ok, Err, IfOk, IfErr, MatchResult};
+ghost use Rattle.std.specs.Prelude.{◌≡◌, ◌≢◌, ◌⊎◌, ◌≤◌, length, take, drop, Ok, Err, IfOk, IfErr, MatchResult};
 ghost use Rattle.cr_model.specs.Checkpoints.{CheckFile};
 ghost use Rattle.cr_model.specs.ProblemFiles.{ProblemFile};
 ghost use Rattle.cr_store.specs.declared.fault.CheckFault.{CheckFault};
 ghost use Rattle.cr_store.specs.declared.fault.CheckFault.TheVariants as fault;
-ghost use Rattle.cr_store.specs.ShapeReads.{shape_parts};
-ghost use Rattle.cr_store.specs.Reading.{lines_of_jobs};
-ghost use Rattle.cr_store.specs.Lines.{node_lines_of};
+ghost use Rattle.cr_store.specs.Lines.{in_all};
 ghost use Rattle.cr_store.specs.Progress.{Progress, AreJobs, IsMadeOf};
 ghost use Rattle.cr_store.specs.Faults.{FirstCheckFault, OrNoMemory, IsProblemFaultOf};
 ghost use Rattle.cr_store.specs.Written.{lists};
@@ -15,13 +13,15 @@ ghost use Rattle.cr_store.specs.Written.{lists};
 use crate::fault::CheckFault;
 use crate::items::{Items, check_items, read_items};
 use crate::laws::bytes_have_one_answer;
-use crate::shape::{NodeLine, Shape, read_shape};
+use crate::outline::Outline;
+use crate::shape::read_shape;
 use cr_model::{Calling, Problem, ProblemFault};
 use cr_node::Node;
 use cr_read::read_problem;
 use cr_row::NoMemory;
 use std::alloc::Global;
 use std::marker::Model;
+use std::mem;
 
 /// What a checkpoint holds: the bytes of the problem's file and the problem that they are, the found touches, in the
 /// book's order, and the jobs that are left, each a list of nodes that is not empty.
@@ -72,9 +72,13 @@ fn read_whole(alloc: Global, bytes: &[u8]) -> Result<Checkpoint, CheckFault>
 {
     let shape = read_shape(alloc, bytes)?;
     let problem = problem_of(alloc, shape.problem)?;
-    let items = read_items(alloc, &problem, &shape)?;
-    check_items(alloc, &problem, &shape, &items)?;
-    checkpoint_of(alloc, &shape, problem, items)
+    let outline = Outline::of(alloc, &shape)?;
+    let items = read_items(alloc, &problem, &shape, &outline)?;
+    let file = shape.problem;
+    // The lines are let go before the checks need memory.
+    drop(shape);
+    check_items(alloc, &problem, &outline, &items)?;
+    checkpoint_of(alloc, file, problem, &outline.sizes, items)
 }
 
 // The problem of a file.
@@ -93,16 +97,17 @@ fn problem_of(alloc: Global, bytes: &[u8]) -> Result<Problem, CheckFault>
 // The checkpoint of all that was read.
 fn checkpoint_of(
     alloc: Global,
-    shape: &Shape,
+    file: &[u8],
     problem: Problem,
+    sizes: &[usize],
     items: Items,
 ) -> Result<Checkpoint, CheckFault>
-    requires { length items.nodes.items ≡ length (node_lines_of (shape_parts shape.now)) }
-    ensures { MatchResult result (IsMadeOf (shape_parts shape.now) problem items.found.items items.nodes.items) (λ why. why ≡ fault.NoMemory) }
+    requires { in_all sizes.now ≡ length items.nodes.items }
+    ensures { MatchResult result (IsMadeOf file.now problem sizes.now items.found.items items.nodes.items) (λ why. why ≡ fault.NoMemory) }
 {
     let Items { found, nodes } = items;
-    let problem_bytes = shape.problem.to_vec(alloc)?;
-    let jobs = into_jobs(alloc, &shape.jobs, nodes)?;
+    let problem_bytes = file.to_vec(alloc)?;
+    let jobs = into_jobs(alloc, sizes, nodes)?;
     Ok(Checkpoint {
         problem_bytes,
         problem,
@@ -111,23 +116,34 @@ fn checkpoint_of(
     })
 }
 
-// The nodes as jobs, each of as many as it has lines.
-fn into_jobs(
-    alloc: Global,
-    lines: &[Vec<NodeLine>],
-    nodes: Vec<Node>,
-) -> Result<Vec<Vec<Node>>, NoMemory>
-    requires { length nodes.items ≡ length (flat_map (λ job. job) (lines_of_jobs lines.now)) }
-    ensures { IfOk result (λ jobs. AreJobs (lines_of_jobs lines.now) nodes.items (lists jobs.items)) }
+// The nodes as jobs of these sizes.
+fn into_jobs(alloc: Global, sizes: &[usize], nodes: Vec<Node>) -> Result<Vec<Vec<Node>>, NoMemory>
+    requires { in_all sizes.now ≡ length nodes.items }
+    ensures { IfOk result (λ jobs. AreJobs sizes.now nodes.items (lists jobs.items)) }
 {
-    let mut jobs = Vec::with_capacity(alloc, lines.len())?;
+    let mut jobs = Vec::with_capacity(alloc, sizes.len())?;
     let mut left = nodes;
-    let mut index = lines.len();
+    let mut index = sizes.len();
     while index > 0 {
         index -= 1;
-        let at = left.len() - lines[index].len();
-        jobs.push(left.split_off(at)?)?;
+        let at = left.len() - sizes[index];
+        jobs.push(nodes_from(alloc, &mut left, at)?)?;
     }
     jobs.reverse();
     Ok(jobs)
+}
+
+// Takes the nodes from a place on. All of them are taken as they stand. Else they are moved to memory of their own, and
+// what the others don't need is given back, so that no node has two places.
+fn nodes_from(alloc: Global, nodes: &mut Vec<Node>, at: usize) -> Result<Vec<Node>, NoMemory>
+    requires { at ≤ length nodes.old.items }
+    ensures taken { IfOk result (λ job. job.items ≡ drop at nodes.old.items) }
+    ensures left { IfOk result (λ _. nodes.new.items ≡ take at nodes.old.items) }
+{
+    if at == 0 {
+        return Ok(mem::replace(nodes, Vec::new(alloc)));
+    }
+    let job = nodes.split_off(at)?;
+    nodes.shrink_to_fit();
+    Ok(job)
 }

@@ -1,15 +1,15 @@
 //! Found touches and nodes, read and checked.
 
-ghost use Rattle.std.specs.Prelude.{◌≡◌, ◌+◌, ◌^◌, ◌<◌, length, All, MatchResult};
-ghost use Rattle.cr_model.specs.Callings.{HasSteps};
+ghost use Rattle.std.specs.Prelude.{◌≡◌, ◌^◌, ◌<◌, MatchResult};
 ghost use Rattle.cr_store.specs.ShapeReads.{shape_parts};
-ghost use Rattle.cr_store.specs.Lines.{HasItems, node_lines_of};
-ghost use Rattle.cr_store.specs.Reading.{IsRead};
+ghost use Rattle.cr_store.specs.Lines.{HasItems, last_in, outline_of};
+ghost use Rattle.cr_store.specs.Reading.{AreOutlined, outline_parts};
 ghost use Rattle.cr_store.specs.Faults.{OrNoMemory, IsUnread, AnswersFor, AnswersForAll, lengths_check, kept_check, order_check, overlap_check, item_checks};
 
 use crate::checking::{first_long, first_out_of_order, first_unkept};
 use crate::fault::CheckFault;
 use crate::lines::line_of;
+use crate::outline::Outline;
 use crate::reading::{read_nodes, read_touches};
 use crate::shape::Shape;
 use cr_book::laws::callings_differ_in_their_texts;
@@ -25,8 +25,14 @@ pub struct Items {
 }
 
 /// The found touches and nodes of all lines.
-pub fn read_items(alloc: Global, problem: &Problem, shape: &Shape) -> Result<Items, CheckFault>
-    requires { IsRead shape.now }
+pub fn read_items(
+    alloc: Global,
+    problem: &Problem,
+    shape: &Shape,
+    outline: &Outline,
+) -> Result<Items, CheckFault>
+    requires few { last_in (outline_parts outline.now) < 2 ^ 64 }
+    requires outline { outline_parts outline.now ≡ outline_of (shape_parts shape.now) }
     ensures { MatchResult result (λ items. HasItems problem.now (shape_parts shape.now) items.found.items items.nodes.items)
         (OrNoMemory (IsUnread problem.now (shape_parts shape.now))) }
 {
@@ -34,12 +40,12 @@ pub fn read_items(alloc: Global, problem: &Problem, shape: &Shape) -> Result<Ite
     let _ = problem.query();
     let mut found = Vec::with_capacity(alloc, shape.found.len())?;
     if !read_touches(alloc, problem, &shape.found, &mut found)? {
-        return Err(CheckFault::Calling(line_of(shape, found.len())));
+        return Err(CheckFault::Calling(line_of(outline, found.len())));
     }
     let mut nodes = Vec::with_capacity(alloc, number_of_nodes(shape))?;
     if !read_nodes(alloc, problem, shape, &mut nodes)? {
         let item = found.len() + nodes.len();
-        return Err(CheckFault::Calling(line_of(shape, item)));
+        return Err(CheckFault::Calling(line_of(outline, item)));
     }
     Ok(Items { found, nodes })
 }
@@ -57,33 +63,31 @@ fn number_of_nodes(shape: &Shape) -> usize {
 pub fn check_items(
     alloc: Global,
     problem: &Problem,
-    shape: &Shape,
+    outline: &Outline,
     items: &Items,
 ) -> Result<(), CheckFault>
-    requires read { IsRead shape.now }
-    requires items { HasItems problem.now (shape_parts shape.now) items.now.found.items items.now.nodes.items }
-    ensures { AnswersForAll (item_checks problem.now (shape_parts shape.now) items.now.found.items items.now.nodes.items) result }
+    requires { AreOutlined problem.now (outline_parts outline.now) items.now.found.items items.now.nodes.items }
+    ensures { AnswersForAll (item_checks problem.now (outline_parts outline.now) items.now.found.items items.now.nodes.items) result }
 {
-    check_lengths(alloc, problem, shape, items)?;
-    check_kept(alloc, problem, shape, items)?;
-    check_order(problem, shape, items)?;
-    check_overlaps(alloc, problem, shape, items)
+    check_lengths(alloc, problem, outline, items)?;
+    check_kept(alloc, problem, outline, items)?;
+    check_order(problem, outline, items)?;
+    check_overlaps(alloc, problem, outline, items)
 }
 
 // No node is longer than a part may be.
 fn check_lengths(
     alloc: Global,
     problem: &Problem,
-    shape: &Shape,
+    outline: &Outline,
     items: &Items,
 ) -> Result<(), CheckFault>
-    requires read { IsRead shape.now }
-    requires items { HasItems problem.now (shape_parts shape.now) items.now.found.items items.now.nodes.items }
-    ensures { AnswersFor (lengths_check problem.now (shape_parts shape.now) items.now.found.items items.now.nodes.items) result }
+    requires { AreOutlined problem.now (outline_parts outline.now) items.now.found.items items.now.nodes.items }
+    ensures { AnswersFor (lengths_check problem.now (outline_parts outline.now) items.now.found.items items.now.nodes.items) result }
 {
     match first_long(alloc, problem, &items.nodes)? {
         Some(node) => {
-            let line = line_of(shape, items.found.len() + node);
+            let line = line_of(outline, items.found.len() + node);
             Err(CheckFault::NodeLong(line))
         }
         None => Ok(()),
@@ -94,27 +98,25 @@ fn check_lengths(
 fn check_kept(
     alloc: Global,
     problem: &Problem,
-    shape: &Shape,
+    outline: &Outline,
     items: &Items,
 ) -> Result<(), CheckFault>
-    requires read { IsRead shape.now }
-    requires items { HasItems problem.now (shape_parts shape.now) items.now.found.items items.now.nodes.items }
-    ensures { AnswersFor (kept_check problem.now (shape_parts shape.now) items.now.found.items) result }
+    requires { AreOutlined problem.now (outline_parts outline.now) items.now.found.items items.now.nodes.items }
+    ensures { AnswersFor (kept_check problem.now (outline_parts outline.now) items.now.found.items) result }
 {
     match first_unkept(alloc, problem, &items.found)? {
-        Some(touch) => Err(CheckFault::NotKept(line_of(shape, touch))),
+        Some(touch) => Err(CheckFault::NotKept(line_of(outline, touch))),
         None => Ok(()),
     }
 }
 
 // Each found touch comes after the one before it.
-fn check_order(problem: &Problem, shape: &Shape, items: &Items) -> Result<(), CheckFault>
-    requires read { IsRead shape.now }
-    requires items { HasItems problem.now (shape_parts shape.now) items.now.found.items items.now.nodes.items }
-    ensures { AnswersFor (order_check problem.now (shape_parts shape.now) items.now.found.items) result }
+fn check_order(problem: &Problem, outline: &Outline, items: &Items) -> Result<(), CheckFault>
+    requires { AreOutlined problem.now (outline_parts outline.now) items.now.found.items items.now.nodes.items }
+    ensures { AnswersFor (order_check problem.now (outline_parts outline.now) items.now.found.items) result }
 {
     match first_out_of_order(problem, &items.found) {
-        Some(touch) => Err(CheckFault::FoundOrder(line_of(shape, touch))),
+        Some(touch) => Err(CheckFault::FoundOrder(line_of(outline, touch))),
         None => Ok(()),
     }
 }
@@ -123,17 +125,16 @@ fn check_order(problem: &Problem, shape: &Shape, items: &Items) -> Result<(), Ch
 fn check_overlaps(
     alloc: Global,
     problem: &Problem,
-    shape: &Shape,
+    outline: &Outline,
     items: &Items,
 ) -> Result<(), CheckFault>
-    requires read { IsRead shape.now }
-    requires items { HasItems problem.now (shape_parts shape.now) items.now.found.items items.now.nodes.items }
-    ensures { AnswersFor (overlap_check problem.now (shape_parts shape.now) items.now.found.items items.now.nodes.items) result }
+    requires { AreOutlined problem.now (outline_parts outline.now) items.now.found.items items.now.nodes.items }
+    ensures { AnswersFor (overlap_check problem.now (outline_parts outline.now) items.now.found.items items.now.nodes.items) result }
 {
     match independent(alloc, problem, &items.found, &items.nodes)? {
         Some((earlier, later)) => {
-            let first = line_of(shape, earlier as usize);
-            let second = line_of(shape, later as usize);
+            let first = line_of(outline, earlier as usize);
+            let second = line_of(outline, later as usize);
             Err(CheckFault::Overlap(first, second))
         }
         None => Ok(()),

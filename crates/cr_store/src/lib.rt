@@ -36,6 +36,7 @@ mod fault;
 mod items;
 pub mod laws;
 mod lines;
+mod outline;
 mod reading;
 mod shape;
 pub mod shape_laws;

@@ -1,39 +1,14 @@
-use Rattle.std.proofs.Common.{◌≡◌, ℕ, List, length, None, sym, ap, ◌∙◌, subst, arith}
-use Rattle.std.proofs.lemmas.List.{length-map}
-use Rattle.cr_node.specs.declared.words.Word.{Word}
-use Rattle.cr_node.specs.Overlaps.{Item, items, item_at, item_of, items_of, ApartBelow, IsLeastBelow, IsFirstOverlap, TellsLeast}
+use Rattle.std.proofs.Common.{List, length, sym, ◌∙◌, subst}
+use Rattle.std.proofs.lemmas.Bool.{false≢true}
+use Rattle.cr_node.specs.Overlaps.{Item, ApartBelow}
 use Rattle.cr_node.proofs.Apart.{independent_where_apart}
-use Rattle.cr_node.proofs.Least.{one_more_apart}
 use Rattle.cr_node.proofs.independence.independent.Goals as goal
 
-pub returns-then-branch : goal.returns-then-branch
-returns-then-branch c =
-    let all = items c.args.problem.now c.args.found.now c.args.nodes.now in
-    let words = c.deref.result.now in
-    let is : items_of words ≡ all = ap items_of c.deref.ensures.value ∙ c.in_ok-words.ensures in
-    let number : c.len.result ≡ length (items_of words) = omega (arith, c.len.ensures, c.deref.ensures.len, length-map words item_of) in
-    let apart : ApartBelow (items_of words) (length (items_of words)) =
-    subst (λ (n : ℕ). ApartBelow (items_of words) n) number (c.in_ok-are_apart.ensures.0 c.if-branch.true) in
-    (independent_where_apart c.args.problem.now c.args.found.now c.args.nodes.now).1 (subst (λ (l : List Item). ApartBelow l (length l)) is apart)
+pub returns-then-are_apart : goal.returns-then-are_apart
+returns-then-are_apart c =
+    let apart = c.are_apart.ensures.0 c.if-are_apart.true in
+    (independent_where_apart c.args.problem.now c.args.found.now c.args.nodes.now).1 (subst (λ (l : List Item). ApartBelow l (length l)) c.in_ok-words.ensures apart)
 
-pub unreachable-requires : goal.unreachable-requires
-unreachable-requires c =
-    let later = c.in_ok-later.later in
-    let words = c.deref-2.result.now in
-    let same : c.deref-3.result.now ≡ words = c.deref-3.ensures.value ∙ sym c.deref-2.ensures.value in
-    let none = subst (λ (l : List Word). TellsLeast (items_of l) (item_at (items_of l) later) later None) same c.in-None.ensures in
-    c.in_ok-later.ensures.overlaps (one_more_apart (items_of words) later c.in_ok-later.ensures.apart none)
-
-pub returns : goal.returns
-returns c =
-    let later = c.in_ok-later.later in
-    let words = c.deref-2.result.now in
-    let is : items_of words ≡ items c.args.problem.now c.args.found.now c.args.nodes.now = ap items_of c.deref-2.ensures.value ∙ c.in_ok-words.ensures in
-    let same : c.deref-3.result.now ≡ words = c.deref-3.ensures.value ∙ sym c.deref-2.ensures.value in
-    let least = subst (λ (l : List Word). IsLeastBelow (items_of l) (item_at (items_of l) later) later c.in-Some.earlier) same c.in-Some.ensures in
-    let first : IsFirstOverlap (items_of words) c.in-Some.earlier later = record {
-      inside = omega (arith, c.in_ok-later.ensures.inside, length-map words item_of);
-      apart = c.in_ok-later.ensures.apart;
-      least = least;
-    } in
-    subst (λ (l : List Item). IsFirstOverlap l c.in-Some.earlier later) is first
+pub first_overlap-requires : goal.first_overlap-requires
+first_overlap-requires c = λ apart.
+    false≢true (sym c.if-are_apart.false ∙ c.are_apart.ensures.1 (subst (λ (l : List Item). ApartBelow l (length l)) (sym c.in_ok-words.ensures) apart))

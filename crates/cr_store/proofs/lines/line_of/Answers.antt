@@ -1,35 +1,27 @@
 -- The line of a found touch comes after the line `found`; the first job's line comes after these and the line `jobs`.
-use Rattle.std.proofs.Common.{◌≡◌, ◌+◌, ◌-◌, length, get_or, sym, ap, ap₂, ◌∙◌, arith}
-use Rattle.std.proofs.lemmas.List.{length-map}
-use Rattle.cr_store.specs.Shapes.{found_line}
-use Rattle.cr_store.specs.ShapeReads.{found_parts, shape_parts}
+use Rattle.std.proofs.Common.{◌+◌, ◌-◌, get_or, sym, ap, ◌∙◌, arith}
 use Rattle.cr_store.specs.Lines.{node_numbers}
-use Rattle.cr_store.specs.Reading.{lines_of_jobs}
+use Rattle.cr_store.specs.Reading.{outline_parts}
 use Rattle.cr_store.proofs.LineNumbers.{of_touch, of_node, after_found}
 use Rattle.cr_store.proofs.lines.line_of.Goals as goal
 
-pub overflow_add-result-then-item-touches : goal.overflow_add-result-then-item-touches
-overflow_add-result-then-item-touches c =
-    omega (arith, c.requires.read.found_at, c.requires.read.few, after_found (shape_parts c.args.shape.now), length-map c.args.shape.now.found.items found_parts)
+pub overflow_add-result : goal.overflow_add-result
+overflow_add-result c = omega (arith, c.requires.few, after_found (outline_parts c.args.outline.now))
 
-pub returns-then-item-touches : goal.returns-then-item-touches
-returns-then-item-touches c =
-    ap (λ n. n + 1 + c.args.item) c.requires.read.found_at
-    ∙ sym (of_touch (shape_parts c.args.shape.now) c.args.item (omega (arith, length-map c.args.shape.now.found.items found_parts)))
+pub overflow_add-result-then-item-outline : goal.overflow_add-result-then-item-outline
+overflow_add-result-then-item-outline c = omega (arith, c.requires.few, after_found (outline_parts c.args.outline.now))
+
+pub returns-then-item-outline : goal.returns-then-item-outline
+returns-then-item-outline c = sym (of_touch (outline_parts c.args.outline.now) c.args.item (omega arith))
 
 pub overflow_add-first : goal.overflow_add-first
-overflow_add-first c = omega (arith, c.requires.read.found_at, c.requires.read.few, after_found (shape_parts c.args.shape.now), length-map c.args.shape.now.found.items found_parts)
+overflow_add-first c = omega (arith, c.requires.few, after_found (outline_parts c.args.outline.now))
 
 pub overflow_add-first-2 : goal.overflow_add-first-2
-overflow_add-first-2 c = omega (arith, c.requires.read.found_at, c.requires.read.few, after_found (shape_parts c.args.shape.now), length-map c.args.shape.now.found.items found_parts)
+overflow_add-first-2 c = omega (arith, c.requires.few, after_found (outline_parts c.args.outline.now))
 
 pub returns : goal.returns
 returns c =
-    let shape = shape_parts c.args.shape.now in
-    let long = length-map c.args.shape.now.found.items found_parts in
-    let first : c.args.shape.now.found_at + c.len-touches.result + 2 ≡ found_line shape + length shape.found + 2 = omega (arith, c.requires.read.found_at, long) in
-    let node : c.args.item - c.len-touches.result ≡ c.args.item - length shape.found = omega (arith, long) in
-    c.line_of_node.ensures
-    ∙ ap (λ js. get_or (node_numbers (c.args.shape.now.found_at + c.len-touches.result + 2) (lines_of_jobs js)) (c.args.item - c.len-touches.result) 0) c.deref.ensures.value
-    ∙ ap₂ (λ n k. get_or (node_numbers n shape.jobs) k 0) first node
-    ∙ sym (of_node shape c.args.item (omega (arith, long)))
+    let outline = outline_parts c.args.outline.now in
+    c.line_of_node.ensures ∙ ap (λ ss. get_or (node_numbers (outline.found_at + outline.touches + 2) ss) (c.args.item - outline.touches) 0) c.deref.ensures.value
+    ∙ sym (of_node outline c.args.item (omega arith))
