@@ -1,0 +1,5 @@
+pub mod Moves
+pub mod Extremes
+pub mod Ways
+pub mod Cells
+pub mod Tables
