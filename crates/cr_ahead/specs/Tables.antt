@@ -1,7 +1,7 @@
 -- Tables of what can still come, as contracts see them.
-use Rattle.std.specs.Prelude.{◌≡◌, ℕ, ◌+◌, ◌-◌, ◌*◌, ◌<◌, ◌≤◌, nat_le, cond, List, [], ◌∷◌, length, get_or, Option, None, IfSome}
+use Rattle.std.specs.Prelude.{◌≡◌, ℕ, ◌+◌, ◌-◌, ◌*◌, ◌<◌, ◌≤◌, nat_le, cond, true, List, [], ◌∷◌, length, get_or, Option, Some, None, IfSome}
 use Rattle.cr_ahead.specs.declared.gains.Gains.{Gains}
-use Rattle.cr_ahead.specs.Moves.{MovesParts, places_of}
+use Rattle.cr_ahead.specs.Moves.{MovesParts, places_of, is_end}
 use Rattle.cr_ahead.specs.Ways.{gain_of, IsWay, Tells, IsAnswer}
 use Rattle.cr_ahead.specs.Cells.{told_by}
 
@@ -40,6 +40,12 @@ pub record AreFew (places : ℕ) (cells : List Gains) : Type 0 where
 pub record AreRight (m : MovesParts) (least greatest : ℕ) (cells : List Gains) : Type 0 where
   pub each : (left place : ℕ) → left ≤ greatest → place < places_of m → left * places_of m + place < length cells
       → IsAnswer m least greatest place (greatest - left) (told_by (cell_at cells (places_of m) left place))
+
+-- the way without steps is one, and gains nothing, or it is none
+abbrev pub IsStay : MovesParts → ℕ → ℕ → ℕ → ℕ → Option Gains → Type 0
+IsStay m least greatest left place None = is_end m place ≡ true → least + left ≤ greatest → ⊥
+IsStay m least greatest left place (Some gains) =
+    (is_end m place ≡ true) × (least + left ≤ greatest) × (gains ≡ record { least = 0; greatest = 0 })
 
 -- a way whose first step is this one
 abbrev pub BeginsWith : ℕ → List ℕ → Type 0

@@ -1,8 +1,11 @@
 //! What can still come.
 #![tactic(auto)]
 
+mod ahead;
 mod gains;
 mod moves;
+mod rows;
 
+pub use ahead::Ahead;
 pub use gains::Gains;
 pub use moves::Moves;
