@@ -1,11 +1,11 @@
 -- Ways by their first step.
-use Rattle.std.proofs.Common.{◌≡◌, ℕ, suc, ◌+◌, ◌-◌, ◌*◌, ◌<◌, ◌≤◌, ◌⊎◌, true, List, [], ◌∷◌, length, Option, Some, None, IfSome, refl, sym, ap, ◌∙◌, subst, inl, inr, arith}
-use Rattle.std.proofs.lemmas.Bool.{cases_eq}
+use Rattle.std.proofs.Common.{◌≡◌, ℕ, suc, ◌+◌, ◌-◌, ◌*◌, ◌<◌, ◌≤◌, nat_le, ◌⊎◌, Bool, true, false, cond, ◌&&◌, List, [], ◌∷◌, length, Option, Some, None, IfSome, refl, sym, ap, ◌∙◌, subst, inl, inr, arith}
+use Rattle.std.proofs.lemmas.Bool.{cases_eq, true≢false, leb-true, leb-false}
 use Rattle.std.proofs.lemmas.List.Elements.{All-nil, All-cons, All-head, All-tail}
 use Rattle.std.proofs.lemmas.Nat.{mul-add-lt}
 use Rattle.cr_ahead.specs.declared.gains.Gains.{Gains}
 use Rattle.cr_ahead.specs.Moves.{MovesParts, places_of, steps_of, next_place, step_length, step_gain, is_end}
-use Rattle.cr_ahead.specs.Ways.{gain_of, IsWay, Tells}
+use Rattle.cr_ahead.specs.Ways.{gain_of, IsWay, Tells, IsAnswer}
 use Rattle.cr_ahead.specs.Cells.{told_by, joined, raised}
 use Rattle.cr_ahead.specs.Tables.{cell_at, IsFew, AreRight, IsStay, BeginsWith, BeginsBelow, IsAnswerOf}
 use Rattle.cr_ahead.proofs.Sets.{tells_joined, tells_raised, tells_same}
@@ -30,39 +30,50 @@ way_before m least greatest place long step steps within way = record {
   at_most = omega (arith, way.at_most);
 }
 
--- the answer for the ways that begin with a step, by the cell of the place that it leads to
-pub by_step : (m : MovesParts) (least greatest left place step long next gain : ℕ) (cells : List Gains)
+-- the answer for the ways that begin with a step, by that for what comes behind it
+pub behind_step : (m : MovesParts) (least greatest place long step gain : ℕ) (later : Option Gains) → step < steps_of m → gain ≡ step_gain m place step
+    → IsAnswer m least greatest (next_place m place step) (long + step_length m step) later
+    → IsAnswerOf m least greatest place long (BeginsWith step) (raised gain later)
+behind_step m least greatest place long step gain later within gain_is told =
+    tells_raised
+    (IsWay m least greatest (next_place m place step) (long + step_length m step))
+    (λ steps. IsWay m least greatest place long steps × BeginsWith step steps)
+    (gain_of m (next_place m place step)) (gain_of m place) step gain
+    (λ steps way. (way_before m least greatest place long step steps within way, refl))
+    back
+    (λ steps. ap (λ (n : ℕ). n + gain_of m (next_place m place step) steps) (sym gain_is))
+    later told
+  where
+    back : (steps : List ℕ) → IsWay m least greatest place long steps × BeginsWith step steps
+        → (rest : List ℕ) × IsWay m least greatest (next_place m place step) (long + step_length m step) rest × (steps ≡ step ∷ rest)
+    back [] h = absurd h.1
+    back (first ∷ rest) h =
+        let same : first ≡ step = h.1 in
+        let way : IsWay m least greatest place long (step ∷ rest) = subst (λ (s : ℕ). IsWay m least greatest place long (s ∷ rest)) same h.0 in
+        (rest, way_on m least greatest place long step rest way, ap (λ (s : ℕ). s ∷ rest) same)
+
+-- a step that is too long begins no way
+pub none_behind : (m : MovesParts) (least greatest place long step : ℕ) → greatest < long + step_length m step
+    → IsAnswerOf m least greatest place long (BeginsWith step) None
+none_behind m least greatest place long step beyond [] h = absurd h.1
+none_behind m least greatest place long step beyond (first ∷ rest) h =
+    let same : step_length m first ≡ step_length m step = ap (step_length m) h.1 in
+    omega (arith, h.0.at_most, same)
+
+-- the cell of the next place has it
+by_step : (m : MovesParts) (least greatest left place step long next gain : ℕ) (cells : List Gains)
     → left ≤ greatest → step < steps_of m → long ≡ step_length m step → 0 < long → long ≤ left
     → next ≡ next_place m place step → next < places_of m → left * places_of m ≤ length cells → gain ≡ step_gain m place step
     → AreRight m least greatest cells
     → IsAnswerOf m least greatest place (greatest - left) (BeginsWith step) (raised gain (told_by (cell_at cells (places_of m) (left - long) next)))
 by_step m least greatest left place step long next gain cells few within long_is some fits next_is there made gain_is right =
-    let low : left - long < left = omega arith in
-    let at : (left - long) * places_of m + next < places_of m * left = mul-add-lt (left - long) (places_of m) next left low there in
-    let inside : (left - long) * places_of m + next < length cells = omega (arith, at, made) in
+    let later = told_by (cell_at cells (places_of m) (left - long) next) in
+    let at : (left - long) * places_of m + next < places_of m * left = mul-add-lt (left - long) (places_of m) next left (omega arith) there in
     let up : greatest - (left - long) ≡ greatest - left + step_length m step = omega arith in
-    let told = right.each (left - long) next (omega arith) there inside in
-    let later : Tells (IsWay m least greatest (next_place m place step) (greatest - left + step_length m step)) (gain_of m (next_place m place step))
-            (told_by (cell_at cells (places_of m) (left - long) next)) =
-        subst (λ (n : ℕ). Tells (IsWay m least greatest (next_place m place step) n) (gain_of m (next_place m place step)) (told_by (cell_at cells (places_of m) (left - long) next))) up
-        (subst (λ (p : ℕ). Tells (IsWay m least greatest p (greatest - (left - long))) (gain_of m p) (told_by (cell_at cells (places_of m) (left - long) next))) next_is told) in
-    tells_raised
-    (IsWay m least greatest (next_place m place step) (greatest - left + step_length m step))
-    (λ steps. IsWay m least greatest place (greatest - left) steps × BeginsWith step steps)
-    (gain_of m (next_place m place step)) (gain_of m place) step gain
-    (λ steps way. (way_before m least greatest place (greatest - left) step steps within way, refl))
-    back
-    (λ steps. ap (λ (n : ℕ). n + gain_of m (next_place m place step) steps) (sym gain_is))
-    (told_by (cell_at cells (places_of m) (left - long) next)) later
-  where
-    back : (steps : List ℕ) → IsWay m least greatest place (greatest - left) steps × BeginsWith step steps
-        → (rest : List ℕ) × IsWay m least greatest (next_place m place step) (greatest - left + step_length m step) rest × (steps ≡ step ∷ rest)
-    back [] h = absurd h.1
-    back (first ∷ rest) h =
-        let same : first ≡ step = h.1 in
-        let way : IsWay m least greatest place (greatest - left) (step ∷ rest) =
-        subst (λ (s : ℕ). IsWay m least greatest place (greatest - left) (s ∷ rest)) same h.0 in
-        (rest, way_on m least greatest place (greatest - left) step rest way, ap (λ (s : ℕ). s ∷ rest) same)
+    behind_step m least greatest place (greatest - left) step gain later within gain_is
+    (subst (λ (n : ℕ). IsAnswer m least greatest (next_place m place step) n later) up
+    (subst (λ (p : ℕ). IsAnswer m least greatest p (greatest - (left - long)) later) next_is
+    (right.each (left - long) next (omega arith) there (omega (arith, at, made)))))
 
 -- as the code finds it
 pub found_by_step : (m : MovesParts) (least greatest left place step long next gain places : ℕ) (cells : List Gains) (later result : Option Gains)
@@ -76,26 +87,46 @@ found_by_step m least greatest left place step long next gain places cells later
     subst (IsAnswerOf m least greatest place (greatest - left) (BeginsWith step)) (sym whole)
     (by_step m least greatest left place step long next gain cells few within long_is some fits next_is there made gain_is right)
 
--- without a first step
-pub none_begun : (m : MovesParts) (least greatest left place : ℕ) (gains : Option Gains) → left ≤ greatest → IsStay m least greatest left place gains
-    → IsAnswerOf m least greatest place (greatest - left) (BeginsBelow 0) gains
-none_begun m least greatest left place None few stay = alone
-  where
-    alone : (steps : List ℕ) → IsWay m least greatest place (greatest - left) steps × BeginsBelow 0 steps → ⊥
-    alone [] h = stay h.0.at_end (omega (arith, h.0.at_least))
-    alone (step ∷ steps) h = let low : step < 0 = h.1 in absurd (omega arith)
-none_begun m least greatest left place (Some gains) few stay =
-    let low : gains.least ≡ 0 = ap (λ (g : Gains). g.least) stay.2 in
-    let high : gains.greatest ≡ 0 = ap (λ (g : Gains). g.greatest) stay.2 in
-    (record { one = []; holds = (way, tt); is = sym low; no_less = λ steps h. omega (arith, low) },
-    record { one = []; holds = (way, tt); is = sym high; no_more = λ steps h. omega (arith, nothing steps h) })
-  where
-    way : IsWay m least greatest place (greatest - left) []
-    way = record { are_steps = All-nil (λ s. s < steps_of m); at_end = stay.0; at_least = omega (arith, stay.1); at_most = omega arith }
+-- without a first step, where the empty list is no way
+none_begun : (m : MovesParts) (least greatest place long : ℕ) → (IsWay m least greatest place long [] → ⊥)
+    → IsAnswerOf m least greatest place long (BeginsBelow 0) None
+none_begun m least greatest place long no_way [] h = no_way h.0
+none_begun m least greatest place long no_way (first ∷ steps) h = let low : first < 0 = h.1 in absurd (omega arith)
 
-    nothing : (steps : List ℕ) → IsWay m least greatest place (greatest - left) steps × BeginsBelow 0 steps → gain_of m place steps ≡ 0
+-- and where it is one
+empty_begun : (m : MovesParts) (least greatest place long : ℕ) → IsWay m least greatest place long []
+    → IsAnswerOf m least greatest place long (BeginsBelow 0) (Some (record { least = 0; greatest = 0 }))
+empty_begun m least greatest place long way =
+    (record { one = []; holds = (way, tt); is = refl; no_less = λ steps h. omega arith },
+    record { one = []; holds = (way, tt); is = refl; no_more = λ steps h. omega (arith, nothing steps h) })
+  where
+    nothing : (steps : List ℕ) → IsWay m least greatest place long steps × BeginsBelow 0 steps → gain_of m place steps ≡ 0
     nothing [] h = refl
-    nothing (step ∷ steps) h = let below : step < 0 = h.1 in absurd (omega arith)
+    nothing (first ∷ steps) h = let low : first < 0 = h.1 in absurd (omega arith)
+
+pub empty_way : (m : MovesParts) (least greatest place long : ℕ) → is_end m place ≡ true → least ≤ long → long ≤ greatest → IsWay m least greatest place long []
+empty_way m least greatest place long end low high = record { are_steps = All-nil (λ s. s < steps_of m); at_end = end; at_least = omega arith; at_most = omega arith }
+
+pub first_begun : (m : MovesParts) (least greatest left place : ℕ) (gains : Option Gains) → left ≤ greatest → IsStay m least greatest left place gains
+    → IsAnswerOf m least greatest place (greatest - left) (BeginsBelow 0) gains
+first_begun m least greatest left place None few stay =
+    none_begun m least greatest place (greatest - left) (λ way. stay way.at_end (omega (arith, way.at_least)))
+first_begun m least greatest left place (Some gains) few stay =
+    subst (λ (g : Gains). IsAnswerOf m least greatest place (greatest - left) (BeginsBelow 0) (Some g)) (sym stay.2)
+    (empty_begun m least greatest place (greatest - left) (empty_way m least greatest place (greatest - left) stay.0 (omega (arith, stay.1)) (omega arith)))
+
+-- by a test of the place and the length
+pub tested_begun : (m : MovesParts) (least greatest place long : ℕ)
+    → IsAnswerOf m least greatest place long (BeginsBelow 0)
+    (cond (is_end m place && (nat_le least long && nat_le long greatest)) (Some (record { least = 0; greatest = 0 })) None)
+tested_begun m least greatest place long = by (is_end m place) refl (nat_le least long) refl (nat_le long greatest) refl
+  where
+    by : (end : Bool) → is_end m place ≡ end → (low : Bool) → nat_le least long ≡ low → (high : Bool) → nat_le long greatest ≡ high
+        → IsAnswerOf m least greatest place long (BeginsBelow 0) (cond (end && (low && high)) (Some (record { least = 0; greatest = 0 })) None)
+    by false e low f high g = none_begun m least greatest place long (λ way. true≢false (sym way.at_end ∙ e))
+    by true e false f high g = none_begun m least greatest place long (λ way. omega (arith, leb-false least long f, way.at_least))
+    by true e true f false g = none_begun m least greatest place long (λ way. omega (arith, leb-false long greatest g, way.at_most))
+    by true e true f true g = empty_begun m least greatest place long (empty_way m least greatest place long e (leb-true least long f) (leb-true long greatest g))
 
 -- with one first step more
 pub one_more_begun : (m : MovesParts) (least greatest place long step : ℕ) (gains more : Option Gains)

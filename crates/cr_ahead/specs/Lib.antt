@@ -3,3 +3,4 @@ pub mod Extremes
 pub mod Ways
 pub mod Cells
 pub mod Tables
+pub mod Examples

@@ -3,6 +3,7 @@
 
 mod ahead;
 mod gains;
+pub mod laws;
 mod moves;
 mod rows;
 

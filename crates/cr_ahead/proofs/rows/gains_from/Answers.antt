@@ -1,8 +1,8 @@
 -- The ways that begin with one step more.
-use Rattle.std.proofs.Common.{◌+◌, ◌-◌, ◌≤◌, sym, subst, arith}
+use Rattle.std.proofs.Common.{◌+◌, ◌-◌, ◌≤◌, sym, subst, arith, rules}
 use Rattle.cr_ahead.specs.Moves.{steps_of}
 use Rattle.cr_ahead.specs.Tables.{IsFew, BeginsBelow, IsAnswerOf}
-use Rattle.cr_ahead.proofs.Steps.{none_begun, one_more_begun, all_begun, few_joined}
+use Rattle.cr_ahead.proofs.Steps.{first_begun, one_more_begun, all_begun, few_joined}
 use Rattle.cr_ahead.proofs.rows.gains_from.Goals as goal
 
 pub loop-step-preserved : goal.loop-step-preserved
@@ -20,3 +20,9 @@ pub returns-clause-is : goal.returns-clause-is
 returns-clause-is c =
     let all : steps_of c.args.moves.now ≤ c.loop-step.step = omega (arith, c.loop-step-test.false, c.steps-step-end.ensures) in
     all_begun c.args.moves.now c.args.least c.args.greatest c.args.place (c.args.greatest - c.args.left) c.loop-step.step c.loop-step.gains all c.loop-step.invariant.is
+
+pub loop-step-init : goal.loop-step-init
+loop-step-init c = record {
+  few = search rules;
+  is = first_begun c.args.moves.now c.args.least c.args.greatest c.args.left c.args.place c.stay-gains.result c.requires.left c.stay-gains.ensures;
+}
