@@ -14,9 +14,10 @@ rest_is_way m least greatest place long [] rest way =
     (All-nil (λ step. step < steps_of m), record { are_steps = way.are_steps; at_end = way.at_end; at_least = omega (arith, way.at_least); at_most = omega (arith, way.at_most) })
 rest_is_way m least greatest place long (step ∷ node) rest way =
     let on = rest_is_way m least greatest (next_place m place step) (long + step_length m step) node rest
-        (way_on m least greatest place long step (node ++ rest) way) in
-    (All-cons (λ s. s < steps_of m) step node (All-head (λ s. s < steps_of m) step (node ++ rest) way.are_steps) on.0,
-    subst (λ (n : ℕ). IsWay m least greatest (place_after m (next_place m place step) node) n rest) (add_assoc long (step_length m step) (length_of m node)) on.1)
+    (way_on m least greatest place long step (node ++ rest) way) in (
+      All-cons (λ s. s < steps_of m) step node (All-head (λ s. s < steps_of m) step (node ++ rest) way.are_steps) on.0,
+      subst (λ (n : ℕ). IsWay m least greatest (place_after m (next_place m place step) node) n rest) (add_assoc long (step_length m step) (length_of m node)) on.1,
+    )
 
 pub way_of_rest : (m : MovesParts) (least greatest place long : ℕ) (node rest : List ℕ) → All (λ step. step < steps_of m) node
     → IsWay m least greatest (place_after m place node) (long + length_of m node) rest → IsWay m least greatest place long (node ++ rest)

@@ -56,12 +56,14 @@ module _ (One Other Both : List ℕ → Type 0) (number_of : List ℕ → ℕ)
 
   pub tells_joined : (one other : Option Gains) → Tells One number_of one → Tells Other number_of other → Tells Both number_of (joined one other)
   tells_joined None None none none' = λ x h. elim (split x h) [ inl g ↦ none x g | inr g ↦ none' x g ]
-  tells_joined None (Some g) none is =
-      (least_right g.least g.least (omega arith) is.0 (λ x h. absurd (none x h)),
-      greatest_right g.greatest g.greatest (omega arith) is.1 (λ x h. absurd (none x h)))
-  tells_joined (Some g) None is none =
-      (least_left g.least g.least (omega arith) is.0 (λ x h. absurd (none x h)),
-      greatest_left g.greatest g.greatest (omega arith) is.1 (λ x h. absurd (none x h)))
+  tells_joined None (Some g) none is = (
+    least_right g.least g.least (omega arith) is.0 (λ x h. absurd (none x h)),
+    greatest_right g.greatest g.greatest (omega arith) is.1 (λ x h. absurd (none x h)),
+  )
+  tells_joined (Some g) None is none = (
+    least_left g.least g.least (omega arith) is.0 (λ x h. absurd (none x h)),
+    greatest_left g.greatest g.greatest (omega arith) is.1 (λ x h. absurd (none x h)),
+  )
   tells_joined (Some g) (Some h) is other =
       (least_joined g.least h.least is.0 other.0, greatest_joined g.greatest h.greatest is.1 other.1)
 
@@ -72,31 +74,33 @@ module _ (Rest All_of : List ℕ → Type 0) (rest_of all_of : List ℕ → ℕ)
     (more : (x : List ℕ) → all_of (step ∷ x) ≡ by + rest_of x) where
   pub tells_raised : (gains : Option Gains) → Tells Rest rest_of gains → Tells All_of all_of (raised by gains)
   tells_raised None none = λ y h. let from = back y h in none from.0 from.1
-  tells_raised (Some g) is =
-      (record {
-        one = step ∷ is.0.one;
-        holds = there is.0.one is.0.holds;
-        is = omega (arith, more is.0.one, is.0.is);
-        no_less = λ y h. let from = back y h in
-            let e : all_of y ≡ all_of (step ∷ from.0) = ap all_of from.2 in
-            omega (arith, e, more from.0, is.0.no_less from.0 from.1);
-      },
-      record {
-        one = step ∷ is.1.one;
-        holds = there is.1.one is.1.holds;
-        is = omega (arith, more is.1.one, is.1.is);
-        no_more = λ y h. let from = back y h in
-            let e : all_of y ≡ all_of (step ∷ from.0) = ap all_of from.2 in
-            omega (arith, e, more from.0, is.1.no_more from.0 from.1);
-      })
+  tells_raised (Some g) is = (
+    record {
+      one = step ∷ is.0.one;
+      holds = there is.0.one is.0.holds;
+      is = omega (arith, more is.0.one, is.0.is);
+      no_less = λ y h. let from = back y h in
+          let e : all_of y ≡ all_of (step ∷ from.0) = ap all_of from.2 in
+          omega (arith, e, more from.0, is.0.no_less from.0 from.1);
+    },
+    record {
+      one = step ∷ is.1.one;
+      holds = there is.1.one is.1.holds;
+      is = omega (arith, more is.1.one, is.1.is);
+      no_more = λ y h. let from = back y h in
+          let e : all_of y ≡ all_of (step ∷ from.0) = ap all_of from.2 in
+          omega (arith, e, more from.0, is.1.no_more from.0 from.1);
+    },
+  )
 
 -- sets with the same members
 pub tells_same : (One Other : List ℕ → Type 0) (number_of : List ℕ → ℕ) → ((x : List ℕ) → One x → Other x) → ((x : List ℕ) → Other x → One x)
     → (gains : Option Gains) → Tells One number_of gains → Tells Other number_of gains
 tells_same One Other number_of there back None none = λ x h. none x (back x h)
-tells_same One Other number_of there back (Some g) is =
-    (record { one = is.0.one; holds = there is.0.one is.0.holds; is = is.0.is; no_less = λ x h. is.0.no_less x (back x h) },
-    record { one = is.1.one; holds = there is.1.one is.1.holds; is = is.1.is; no_more = λ x h. is.1.no_more x (back x h) })
+tells_same One Other number_of there back (Some g) is = (
+  record { one = is.0.one; holds = there is.0.one is.0.holds; is = is.0.is; no_less = λ x h. is.0.no_less x (back x h) },
+  record { one = is.1.one; holds = there is.1.one is.1.holds; is = is.1.is; no_more = λ x h. is.1.no_more x (back x h) },
+)
 
 -- there is one answer
 least_is_one : (Holds : List ℕ → Type 0) (number_of : List ℕ → ℕ) (a b : ℕ) → IsLeast Holds number_of a → IsLeast Holds number_of b → a ≡ b

@@ -96,9 +96,10 @@ none_begun m least greatest place long no_way (first ∷ steps) h = let low : fi
 -- and where it is one
 empty_begun : (m : MovesParts) (least greatest place long : ℕ) → IsWay m least greatest place long []
     → IsAnswerOf m least greatest place long (BeginsBelow 0) (Some (record { least = 0; greatest = 0 }))
-empty_begun m least greatest place long way =
-    (record { one = []; holds = (way, tt); is = refl; no_less = λ steps h. omega arith },
-    record { one = []; holds = (way, tt); is = refl; no_more = λ steps h. omega (arith, nothing steps h) })
+empty_begun m least greatest place long way = (
+  record { one = []; holds = (way, tt); is = refl; no_less = λ steps h. omega arith },
+  record { one = []; holds = (way, tt); is = refl; no_more = λ steps h. omega (arith, nothing steps h) },
+)
   where
     nothing : (steps : List ℕ) → IsWay m least greatest place long steps × BeginsBelow 0 steps → gain_of m place steps ≡ 0
     nothing [] h = refl

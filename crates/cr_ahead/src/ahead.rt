@@ -54,19 +54,26 @@ impl Ahead {
         })
     }
 
+    /// How many places there are.
+    pub fn places(&self) -> usize
+        ensures { result ≡ self.now.places }
+    {
+        self.places
+    }
+
     /// The least and the greatest gain of all ways from a place at which a part is so long. None exactly where there
     /// is none. It takes constant time.
-    pub fn at(&self, place: u32, long: u32) -> Option<Gains>
+    pub fn at(&self, place: u32, length: u32) -> Option<Gains>
         requires { place < self.now.places }
-        ensures is { result ≡ answer_at self.now place long }
+        ensures is { result ≡ answer_at self.now place length }
         ensures of_moves { (m : MovesParts) (least greatest : ℕ) → IsAhead m least greatest self.now
-            → IsAnswer m least greatest place long result }
+            → IsAnswer m least greatest place length result }
     {
         let greatest = u32::from(self.greatest);
-        if long > greatest {
+        if length > greatest {
             return None;
         }
-        let row = (greatest - long) as usize * self.places;
+        let row = (greatest - length) as usize * self.places;
         told_by(self.cells[row + place as usize])
     }
 }

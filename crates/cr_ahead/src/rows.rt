@@ -10,7 +10,13 @@ use crate::moves::Moves;
 use cr_row::NoMemory;
 
 /// Appends a row of cells, for a part that may be so much longer. It takes what it needs from the rows above it alone.
-pub fn push_row(cells: &mut Vec<Gains>, moves: &Moves, least: u16, greatest: u16, left: usize) -> Result<(), NoMemory>
+pub fn push_row(
+    cells: &mut Vec<Gains>,
+    moves: &Moves,
+    least: u16,
+    greatest: u16,
+    left: usize,
+) -> Result<(), NoMemory>
     requires left { left ≤ greatest }
     requires counted { length cells.old.items ≡ left * places_of moves.now }
     requires few { AreFew (places_of moves.now) cells.old.items }
@@ -27,7 +33,14 @@ pub fn push_row(cells: &mut Vec<Gains>, moves: &Moves, least: u16, greatest: u16
 }
 
 // The gains of the ways from a place.
-fn gains_from(moves: &Moves, cells: &[Gains], least: u16, greatest: u16, left: usize, place: usize) -> Option<Gains>
+fn gains_from(
+    moves: &Moves,
+    cells: &[Gains],
+    least: u16,
+    greatest: u16,
+    left: usize,
+    place: usize,
+) -> Option<Gains>
     requires left { left ≤ greatest }
     requires place { place < places_of moves.now }
     requires counted { left * places_of moves.now ≤ length cells.now }
