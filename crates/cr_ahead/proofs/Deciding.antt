@@ -4,11 +4,11 @@ use Rattle.std.proofs.lemmas.Bool.{leb-false}
 use Rattle.std.specs.List.{All}
 use Rattle.std.proofs.lemmas.List.Elements.{All-get_or, All-nil, All-cons}
 use Rattle.cr_ahead.specs.declared.gains.Gains.{Gains}
-use Rattle.cr_ahead.specs.Moves.{MovesParts, steps_of, next_place, step_length, step_gain, is_end, IsSound}
-use Rattle.cr_ahead.specs.Ways.{gain_of, IsWay, HasNoWay, IsLeastGain, IsGreatestGain, IsAnswer}
+use Rattle.cr_ahead.specs.Moves.{MovesParts, steps_of, next_place, step_length, step_gain, is_end}
+use Rattle.cr_ahead.specs.Ways.{IsAnswer}
 use Rattle.cr_ahead.specs.Examples.{ring}
 use Rattle.cr_ahead.specs.Cells.{joined, raised}
-use Rattle.cr_ahead.specs.Tables.{BeginsWith, BeginsBelow, IsAnswerOf}
+use Rattle.cr_ahead.specs.Rows.{BeginsWith, BeginsBelow, IsAnswerOf}
 use Rattle.cr_ahead.proofs.Steps.{behind_step, none_behind, tested_begun, one_more_begun, all_begun}
 
 -- some gains joined with those by the first steps

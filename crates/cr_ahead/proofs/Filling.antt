@@ -1,13 +1,14 @@
 -- Cells put down one after another.
-use Rattle.std.proofs.Common.{◌≡◌, ℕ, suc, ◌+◌, ◌-◌, ◌*◌, ◌<◌, ◌≤◌, nat_le, cond, true, false, List, [], ◌∷◌, ◌++◌, length, get_or, Option, Some, None, IfSome, refl, sym, ap, ◌∙◌, subst, inl, inr, arith, length-append}
-use Rattle.std.proofs.lemmas.Bool.{cases_eq, cases_lt, le-leb, lt-leb}
+use Rattle.std.proofs.Common.{◌≡◌, ℕ, ◌+◌, ◌-◌, ◌*◌, ◌<◌, ◌≤◌, cond, List, [], ◌∷◌, ◌++◌, length, Option, Some, None, refl, sym, ap, ◌∙◌, subst, inl, inr, arith, length-append}
+use Rattle.std.proofs.lemmas.Bool.{cases_lt, le-leb, lt-leb}
 use Rattle.std.proofs.lemmas.List.{get_or_append_left, get_or_push}
 use Rattle.std.proofs.lemmas.Nat.{mul-add-lt, same_from_place}
 use Rattle.cr_ahead.specs.declared.gains.Gains.{Gains}
 use Rattle.cr_ahead.specs.Moves.{MovesParts, places_of}
-use Rattle.cr_ahead.specs.Ways.{IsWay, IsAnswer, HasNoWay}
+use Rattle.cr_ahead.specs.Ways.{IsAnswer}
 use Rattle.cr_ahead.specs.Cells.{told_by, cell_of}
-use Rattle.cr_ahead.specs.Tables.{AheadParts, cell_at, answer_at, IsAhead, IsFew, AreFew, AreRight}
+use Rattle.cr_ahead.specs.Tables.{AheadParts, cell_at, answer_at, IsAhead}
+use Rattle.cr_ahead.specs.Rows.{IsFew, AreFew, AreRight}
 
 -- a cell tells what it was made of
 pub told_back : (left : ℕ) (gains : Option Gains) → IsFew left gains → told_by (cell_of gains) ≡ gains

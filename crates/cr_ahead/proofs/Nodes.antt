@@ -1,9 +1,9 @@
 -- Ways through a node.
-use Rattle.std.proofs.Common.{◌≡◌, ℕ, ◌+◌, ◌<◌, ◌≤◌, ◌↔◌, List, [], ◌∷◌, ◌++◌, Option, Some, None, IsNone, IfSome, refl, sym, ap, ◌∙◌, subst, arith, rules, add_assoc}
+use Rattle.std.proofs.Common.{◌≡◌, ℕ, ◌+◌, ◌<◌, ◌≤◌, ◌↔◌, List, [], ◌∷◌, ◌++◌, Option, Some, None, IsNone, IfSome, sym, subst, arith, rules, add_assoc}
 use Rattle.std.specs.List.{All}
 use Rattle.std.proofs.lemmas.List.Elements.{All-nil, All-cons, All-head, All-tail}
 use Rattle.cr_ahead.specs.declared.gains.Gains.{Gains}
-use Rattle.cr_ahead.specs.Moves.{MovesParts, steps_of, next_place, step_length, step_gain}
+use Rattle.cr_ahead.specs.Moves.{MovesParts, steps_of, next_place, step_length}
 use Rattle.cr_ahead.specs.Ways.{place_after, length_of, gain_of, IsWay, HasNoWay, IsLeastGain, IsGreatestGain, IsAnswer}
 use Rattle.cr_ahead.proofs.Steps.{way_on, way_before}
 

@@ -1,5 +1,5 @@
 -- What answers say of sets that are joined, and of sets whose members begin with one more step.
-use Rattle.std.proofs.Common.{◌≡◌, ℕ, ◌+◌, ◌≤◌, ◌⊎◌, min, max, List, ◌∷◌, Option, Some, None, refl, sym, ap, ◌∙◌, subst, inl, inr, arith}
+use Rattle.std.proofs.Common.{◌≡◌, ℕ, ◌+◌, ◌≤◌, ◌⊎◌, min, max, List, ◌∷◌, Option, Some, None, refl, ap, subst, inl, inr, arith}
 use Rattle.std.proofs.lemmas.Bool.{cases_lt}
 use Rattle.cr_ahead.specs.declared.gains.Gains.{Gains}
 use Rattle.cr_ahead.specs.Extremes.{IsLeast, IsGreatest}

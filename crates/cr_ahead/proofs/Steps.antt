@@ -1,5 +1,5 @@
 -- Ways by their first step.
-use Rattle.std.proofs.Common.{◌≡◌, ℕ, suc, ◌+◌, ◌-◌, ◌*◌, ◌<◌, ◌≤◌, nat_le, ◌⊎◌, Bool, true, false, cond, ◌&&◌, List, [], ◌∷◌, length, Option, Some, None, IfSome, refl, sym, ap, ◌∙◌, subst, inl, inr, arith}
+use Rattle.std.proofs.Common.{◌≡◌, ℕ, ◌+◌, ◌-◌, ◌*◌, ◌<◌, ◌≤◌, nat_le, ◌⊎◌, Bool, true, false, cond, ◌&&◌, List, [], ◌∷◌, length, Option, Some, None, refl, sym, ap, ◌∙◌, subst, inl, inr, arith}
 use Rattle.std.proofs.lemmas.Bool.{cases_eq, true≢false, leb-true, leb-false}
 use Rattle.std.proofs.lemmas.List.Elements.{All-nil, All-cons, All-head, All-tail}
 use Rattle.std.proofs.lemmas.Nat.{mul-add-lt}
@@ -7,7 +7,8 @@ use Rattle.cr_ahead.specs.declared.gains.Gains.{Gains}
 use Rattle.cr_ahead.specs.Moves.{MovesParts, places_of, steps_of, next_place, step_length, step_gain, is_end}
 use Rattle.cr_ahead.specs.Ways.{gain_of, IsWay, Tells, IsAnswer}
 use Rattle.cr_ahead.specs.Cells.{told_by, joined, raised}
-use Rattle.cr_ahead.specs.Tables.{cell_at, IsFew, AreRight, IsStay, BeginsWith, BeginsBelow, IsAnswerOf}
+use Rattle.cr_ahead.specs.Tables.{cell_at}
+use Rattle.cr_ahead.specs.Rows.{IsFew, AreRight, IsStay, BeginsWith, BeginsBelow, IsAnswerOf}
 use Rattle.cr_ahead.proofs.Sets.{tells_joined, tells_raised, tells_same}
 
 -- behind a first step

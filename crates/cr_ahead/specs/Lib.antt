@@ -3,4 +3,5 @@ pub mod Extremes
 pub mod Ways
 pub mod Cells
 pub mod Tables
+pub mod Rows
 pub mod Examples

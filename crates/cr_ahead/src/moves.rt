@@ -56,7 +56,6 @@ impl Moves {
         ensures is { result ≡ places_of self.now }
         ensures few { result ≤ 4294967296 }
     {
-        let _ = self.next.len();
         self.ends.len()
     }
 

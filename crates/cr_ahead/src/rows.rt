@@ -3,7 +3,7 @@
 ghost use Rattle.std.specs.Prelude.{◌≡◌, ℕ, ◌+◌, ◌-◌, ◌*◌, ◌<◌, ◌≤◌, length, IfOk};
 ghost use Rattle.cr_ahead.specs.Moves.{places_of, steps_of};
 ghost use Rattle.cr_ahead.specs.Ways.{IsAnswer};
-ghost use Rattle.cr_ahead.specs.Tables.{IsFew, AreFew, AreRight, BeginsWith, IsAnswerOf, IsStay};
+ghost use Rattle.cr_ahead.specs.Rows.{IsFew, AreFew, AreRight, BeginsWith, IsAnswerOf, IsStay};
 
 use crate::gains::{Gains, cell_of, joined, raised, told_by};
 use crate::moves::Moves;
@@ -82,11 +82,11 @@ fn gains_by(moves: &Moves, cells: &[Gains], left: usize, place: usize, step: usi
     ensures is { (least greatest : ℕ) → left ≤ greatest → AreRight moves.now least greatest cells.now
         → IsAnswerOf moves.now least greatest place (greatest - left) (BeginsWith step) result }
 {
-    let long = usize::from(moves.length(step));
-    if long > left {
+    let length = usize::from(moves.length(step));
+    if length > left {
         return None;
     }
-    let row = (left - long) * moves.places();
+    let row = (left - length) * moves.places();
     let later = told_by(cells[row + moves.next(place, step)]);
     raised(u32::from(moves.gain(place, step)), later)
 }

@@ -5,9 +5,9 @@ use Rattle.cr_ahead.proofs.rows.gains_by.Goals as goal
 
 pub returns-clause-is : goal.returns-clause-is
 returns-clause-is c = λ least greatest few right.
-    let fits : c.from-long.result ≤ c.args.left = omega (arith, c.if-long-left.false) in
-    found_by_step c.args.moves.now least greatest c.args.left c.args.place c.args.step c.from-long.result c.next.result c.from.result c.places.result c.args.cells.now
+    let fits : c.from-length.result ≤ c.args.left = omega (arith, c.if-length-left.false) in
+    found_by_step c.args.moves.now least greatest c.args.left c.args.place c.args.step c.from-length.result c.next.result c.from.result c.places.result c.args.cells.now
     c.told_by-later.result c.raised.result
-    few c.requires.step (c.from-long.ensures ∙ c.length.ensures.is) (omega (arith, c.from-long.ensures, c.length.ensures.some)) fits
+    few c.requires.step (c.from-length.ensures ∙ c.length.ensures.is) (omega (arith, c.from-length.ensures, c.length.ensures.some)) fits
     c.next.ensures.is c.next.ensures.there c.requires.counted (c.from.ensures ∙ c.gain.ensures) c.places.ensures.is
     c.told_by-later.ensures c.raised.ensures right

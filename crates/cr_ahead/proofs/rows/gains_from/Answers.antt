@@ -1,7 +1,7 @@
 -- The ways that begin with one step more.
 use Rattle.std.proofs.Common.{◌+◌, ◌-◌, ◌≤◌, sym, subst, arith, rules}
 use Rattle.cr_ahead.specs.Moves.{steps_of}
-use Rattle.cr_ahead.specs.Tables.{IsFew, BeginsBelow, IsAnswerOf}
+use Rattle.cr_ahead.specs.Rows.{IsFew, BeginsBelow, IsAnswerOf}
 use Rattle.cr_ahead.proofs.Steps.{first_begun, one_more_begun, all_begun, few_joined}
 use Rattle.cr_ahead.proofs.rows.gains_from.Goals as goal
 

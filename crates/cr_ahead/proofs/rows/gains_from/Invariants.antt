@@ -1,6 +1,6 @@
 -- the ways whose first step is one of those before
 use Rattle.std.proofs.Common.{◌-◌}
-use Rattle.cr_ahead.specs.Tables.{IsFew, BeginsBelow, IsAnswerOf}
+use Rattle.cr_ahead.specs.Rows.{IsFew, BeginsBelow, IsAnswerOf}
 use Rattle.cr_ahead.proofs.rows.gains_from.Given as goal
 
 abbrev pub invariant-loop-step : goal.invariant-loop-step

@@ -1,9 +1,9 @@
 -- One cell more.
-use Rattle.std.proofs.Common.{◌≡◌, ◌+◌, ◌*◌, ◌<◌, ◌∷◌, [], ◌++◌, ◌∙◌, List, length, ap, sym, subst, arith, length-append}
+use Rattle.std.proofs.Common.{◌≡◌, ◌+◌, ◌<◌, ◌∷◌, [], ◌++◌, ◌∙◌, length, ap, sym, subst, arith, length-append}
 use Rattle.cr_ahead.specs.declared.gains.Gains.{Gains}
 use Rattle.cr_ahead.specs.Moves.{places_of}
 use Rattle.cr_ahead.specs.Cells.{cell_of}
-use Rattle.cr_ahead.specs.Tables.{AreFew, AreRight}
+use Rattle.cr_ahead.specs.Rows.{AreFew, AreRight}
 use Rattle.cr_ahead.proofs.Filling.{few_more, right_more}
 use Rattle.cr_ahead.proofs.rows.push_row.Goals as goal
 

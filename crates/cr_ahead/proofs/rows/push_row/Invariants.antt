@@ -1,6 +1,6 @@
 use Rattle.std.proofs.Common.{◌≡◌, ◌+◌, ◌*◌, length}
 use Rattle.cr_ahead.specs.Moves.{places_of}
-use Rattle.cr_ahead.specs.Tables.{AreFew, AreRight}
+use Rattle.cr_ahead.specs.Rows.{AreFew, AreRight}
 use Rattle.cr_ahead.proofs.rows.push_row.Given as goal
 
 abbrev pub invariant-loop-place : goal.invariant-loop-place

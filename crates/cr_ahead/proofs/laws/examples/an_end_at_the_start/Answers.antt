@@ -1,4 +1,4 @@
-use Rattle.std.proofs.Common.{true, refl, arith}
+use Rattle.std.proofs.Common.{refl, arith}
 use Rattle.cr_ahead.proofs.Steps.{empty_way}
 use Rattle.cr_ahead.specs.Examples.{ring}
 use Rattle.cr_ahead.proofs.Deciding.{ring_answers}

@@ -1,4 +1,4 @@
-use Rattle.std.proofs.Common.{ℕ, ◌<◌, [], ◌∷◌, refl, arith}
+use Rattle.std.proofs.Common.{ℕ, ◌<◌, [], refl, arith}
 use Rattle.std.proofs.lemmas.List.Elements.{All-nil, All-cons, All-head}
 use Rattle.cr_ahead.proofs.Deciding.{ring_answers}
 use Rattle.cr_ahead.proofs.laws.examples.lengths_at_the_edges.Goals as goal

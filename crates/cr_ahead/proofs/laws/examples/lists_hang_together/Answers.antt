@@ -1,5 +1,5 @@
 use Rattle.std.proofs.Common.{ℕ, ◌<◌, [], ◌∷◌, refl, arith}
-use Rattle.std.proofs.lemmas.List.Elements.{All-from_recursion, All-get_or}
+use Rattle.std.proofs.lemmas.List.Elements.{All-from_recursion}
 use Rattle.cr_ahead.proofs.Deciding.{ring_long}
 use Rattle.cr_ahead.proofs.laws.examples.lists_hang_together.Goals as goal
 
