@@ -2,7 +2,8 @@
 
 ghost use Rattle.std.specs.Prelude.{⊤};
 
-use cr_board::{Board, Entry};
+use crate::journals::SECOND_FIRST;
+use cr_board::Board;
 use cr_hunter::{board_of_both, hunts_within, make_hunter, plain_hunts, run_all};
 use cr_model::Problem;
 use cr_node::{Done, Explorer, Node};
@@ -51,41 +52,12 @@ fn all_found(board: &Board) -> bool {
         && first.steps() != second.steps()
 }
 
-const ALONE: &[Entry] = &[
-    Entry::Take {
-        worker: 0,
-        lane: 0,
-        job: 1,
-        grant: 4096,
-    },
-    Entry::Hand {
-        worker: 0,
-        job: 1,
-        used: 1,
-        touches: 1,
-        opened: 0,
-    },
-    Entry::Take {
-        worker: 0,
-        lane: 0,
-        job: 0,
-        grant: 4096,
-    },
-    Entry::Hand {
-        worker: 0,
-        job: 0,
-        used: 1,
-        touches: 1,
-        opened: 0,
-    },
-];
-
 // One worker goes on to the last job.
 #[test]
 fn a_worker_alone(rt: HostRuntime) -> Result<(), Fail> {
     let board = board_of_both(rt.alloc(), None, 1)?;
     let (board, entries) = run_all(&rt, rt.alloc(), board, &make_hunter(rt.alloc())?)?;
-    assert!(rt; board.journal() == ALONE && all_found(&board));
+    assert!(rt; board.journal() == SECOND_FIRST && all_found(&board));
     assert_eq!(rt; entries, 4);
     Ok(())
 }

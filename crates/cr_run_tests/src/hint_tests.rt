@@ -4,6 +4,7 @@ ghost use Rattle.std.specs.Prelude.{ℕ};
 
 use crate::alone_tests::Begun::*;
 use crate::alone_tests::opening;
+use crate::journals::{FIRST_FIRST, SECOND_FIRST};
 use cr_board::{Board, Entry};
 use cr_desk::Hints;
 use cr_hunter::{board_of_both, make_hunter, run_by};
@@ -65,66 +66,6 @@ impl Hints for AlwaysStale {
         Some(u64::MAX)
     }
 }
-
-// The journal of one worker that works on step 0 first, which is job 1, as it does without hints.
-const SECOND_FIRST: &[Entry] = &[
-    Entry::Take {
-        worker: 0,
-        lane: 0,
-        job: 1,
-        grant: 4096,
-    },
-    Entry::Hand {
-        worker: 0,
-        job: 1,
-        used: 1,
-        touches: 1,
-        opened: 0,
-    },
-    Entry::Take {
-        worker: 0,
-        lane: 0,
-        job: 0,
-        grant: 4096,
-    },
-    Entry::Hand {
-        worker: 0,
-        job: 0,
-        used: 1,
-        touches: 1,
-        opened: 0,
-    },
-];
-
-// The same where it works on job 0 first.
-const FIRST_FIRST: &[Entry] = &[
-    Entry::Take {
-        worker: 0,
-        lane: 0,
-        job: 0,
-        grant: 4096,
-    },
-    Entry::Hand {
-        worker: 0,
-        job: 0,
-        used: 1,
-        touches: 1,
-        opened: 0,
-    },
-    Entry::Take {
-        worker: 0,
-        lane: 0,
-        job: 1,
-        grant: 4096,
-    },
-    Entry::Hand {
-        worker: 0,
-        job: 1,
-        used: 1,
-        touches: 1,
-        opened: 0,
-    },
-];
 
 // What the hints give, how often they are asked, and the journal.
 type Claim = (&'static [u64], usize, &'static [Entry]);

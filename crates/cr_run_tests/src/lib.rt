@@ -8,4 +8,6 @@ mod desk_tests;
 #[cfg(test)]
 mod hint_tests;
 #[cfg(test)]
+mod journals;
+#[cfg(test)]
 mod worker_tests;

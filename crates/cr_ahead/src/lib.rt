@@ -1,0 +1,39 @@
+//! What can still come: the least and the greatest gain of all ways to the end of a part.
+//!
+//! A search goes from place to place. From each place each step leads to one place; a step has a length, and gains
+//! something by place and step. A way is a list of steps that leads to an end of a part, with the length of the part in
+//! a range. From what the ways from a node's last place can gain at least and at most it is seen whether the node can
+//! still become what is asked for.
+//!
+//! - [`Moves::new`]: where the steps lead, how long they are, what they gain, and where a part ends.
+//! - [`Ahead::new`]: the table of these moves, for a range of lengths.
+//! - [`Ahead::at`]: for a place and the length of a part there, the least and the greatest gain of all ways
+//!   ([`Gains`]), or that there is none. It takes constant time and no memory.
+//!
+//! The functions of [`laws`] do nothing: the contract of each is what is proved of ways.
+//!
+//! ```rust
+//! // Two places, of which the first is an end, and one step, which leads to the other place and gains 1 on its way home.
+//! let next = Vec::from_slice(alloc, &[1, 0])?;
+//! let gains = Vec::from_slice(alloc, &[0, 1])?;
+//! let lengths = Vec::from_slice(alloc, &[10])?;
+//! let ends = Vec::from_slice(alloc, &[true, false])?;
+//! let moves = Moves::new(next, gains, lengths, ends).ok_or("the lists hang together")?;
+//! let ahead = Ahead::new(alloc, &moves, 20, 40)?;
+//! assert_eq!(rt; ahead.at(0, 0), Some(Gains { least: 1, greatest: 2 }));
+//! assert_eq!(rt; ahead.at(1, 40), None);
+//! ```
+#![tactic(auto)]
+
+mod ahead;
+mod gains;
+pub mod laws;
+mod moves;
+mod rows;
+
+pub use ahead::Ahead;
+pub use gains::Gains;
+pub use moves::Moves;
+
+#[cfg(test)]
+mod tests;
