@@ -3,7 +3,7 @@ use Rattle.std.proofs.Common.{ap, inl, sym, subst, ◌∙◌, ◌^◌, ◌<◌, 
 use Rattle.std.proofs.lemmas.Result.{err_from_is_err_and, MatchResult-weaker}
 use Rattle.cr_model.specs.Checks.{IsFirstFailure, AllHold}
 use Rattle.cr_store.specs.ShapeReads.{shape_parts}
-use Rattle.cr_store.specs.Lines.{last_in}
+use Rattle.cr_store.specs.Lines.{in_all, last_in}
 use Rattle.cr_store.specs.Reading.{AreOutlined}
 use Rattle.cr_store.specs.Progress.{IsMadeOf}
 use Rattle.cr_store.specs.Faults.{OrNoMemory, item_checks}
@@ -32,6 +32,14 @@ returns-in_err-check_items c =
     c.in_err-check_items.ensures in
     rw (e.1, e.2) (or_items c.args.bytes.now (shape_parts c.in_ok-shape.shape) c.in_ok-problem.problem items.found.items items.nodes.items c.in_err-check_items.field-0.0
     (record { problem = record { shape_is = c.in_ok-shape.ensures.shape; problem = c.in_ok-problem.ensures }; items = c.in_ok-items.ensures }) wrong)
+
+pub checkpoint_of-requires : goal.checkpoint_of-requires
+checkpoint_of-requires c =
+    let shape = shape_parts c.in_ok-shape.shape in
+    let items = c.in_ok-items.items in
+    let are =
+    outlined c.in_ok-problem.problem shape items.found.items items.nodes.items c.in_ok-items.ensures (few_lines c.args.bytes.now shape (omega arith) c.in_ok-shape.ensures.shape) in
+    ap in_all (c.deref.ensures.value ∙ ap (λ o. o.sizes) c.in_ok-outline.ensures) ∙ are.as_many_nodes
 
 pub returns : goal.returns
 returns c =
