@@ -4,8 +4,8 @@ use Rattle.cr_store.specs.Written.{lists}
 use Rattle.cr_shard.specs.Deals.{dealt_found, dealt_nodes, as_jobs, nodes_seen}
 use Rattle.cr_shard.proofs.cut.shard_of.Goals as goal
 
-pub write_parts-body-requires-clause-goes_on : goal.write_parts-body-requires-clause-goes_on
-write_parts-body-requires-clause-goes_on c =
+pub write_parts-requires-clause-goes_on : goal.write_parts-requires-clause-goes_on
+write_parts-requires-clause-goes_on c =
     let p = c.args.problem.now in
     let written = lists c.deref.result.now in
     let is : written ≡ as_jobs (dealt_nodes c.args.into c.args.shard (nodes_seen c.args.nodes.now)) =
