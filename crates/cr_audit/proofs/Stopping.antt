@@ -15,7 +15,7 @@ use Rattle.cr_audit.specs.declared.verdict.Verdict.TheVariants as verdict
 use Rattle.std.proofs.lemmas.Bool.{false≢true}
 use Rattle.cr_audit.specs.Dues.{dues, is_open}
 use Rattle.cr_audit.specs.Examples.{line_of}
-use Rattle.cr_audit.specs.Logs.{LineParts, line_text, log_text, IsLine, opened_by, AreDue, IsTrueLine, IsOpened, Proves}
+use Rattle.cr_audit.specs.Logs.{LineParts, line_text, log_text, IsLine, opened_by, AreDue, IsSmall, IsTrueLine, IsOpened, Proves}
 use Rattle.cr_audit.specs.Nodes.{IsNodeText}
 use Rattle.cr_audit.specs.Reads.{raw_text, IsRaw}
 use Rattle.std.specs.Prelude.{Result, Ok, Err}
@@ -201,3 +201,22 @@ found_here p node why more old opens told calling = (
   ],
   λ either. (told calling).1 (elim either [ inl before ↦ inl before | inr here ↦ inr (here.is, here.kept) ]),
 )
+
+-- of any other
+pub none_found : (p : ProblemParts) (node : List ℕ) (why : Verdict) (more old : List (List ℕ)) → is_open why ≡ false → more ≡ old
+    → (calling : List ℕ) → Contains more calling ↔ (Contains old calling ⊎ IsFound p (line_of node why) calling)
+none_found p node why more old cut same calling = (
+  λ held. inl (subst (λ (l : List (List ℕ)). Contains l calling) same held),
+  λ either. elim either [
+    | inl before ↦ subst (λ (l : List (List ℕ)). Contains l calling) (sym same) before
+    | inr here ↦ absurd (false≢true (sym cut ∙ ap is_open here.opens))
+  ],
+)
+
+-- a line of a known node
+pub line_due : (p : ProblemParts) → IsSound p → (text steps node : List ℕ) (why : Verdict) (rest : List ℕ) → HasSteps p steps → node ≡ steps_text p steps
+    → IsSmall why → text ≡ raw_text node why ++ 10 ∷ rest → Begins p text (line_of steps why) rest
+line_due p sound text steps node why rest known same small is = record {
+  form = record { steps = known; small = small };
+  is = is ∙ ap (λ (n : List ℕ). raw_text n why ++ 10 ∷ rest) same ∙ sym (line_is p sound (line_of steps why) rest);
+}

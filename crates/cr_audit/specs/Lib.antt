@@ -7,8 +7,7 @@ pub mod Audits
 pub mod Examples
 pub mod Dues
 pub mod Keeping
-pub mod Meeting
+pub mod Marks
 pub mod Paths
-pub mod Judged
 pub mod Stops
 pub mod Touched

@@ -13,20 +13,20 @@
 
 mod auditing;
 mod booking;
-mod coming_round;
 mod counting;
+mod differing;
 mod digits;
-mod equal_words;
 mod fault;
+mod fitting;
 mod judging;
 mod keeping;
 pub mod laws;
 mod limits;
 mod line;
 mod lines;
-mod meeting;
 mod nodes;
 mod path;
+mod places;
 mod reading;
 mod touches;
 mod verdict;

@@ -1,7 +1,7 @@
 //! Numbers and their limits.
 
 ghost use Rattle.std.specs.Prelude.{◌≡◌, ◌+◌, ◌-◌, ◌*◌, ◌<◌, ◌≤◌, ◌^◌, pos, int_lt, ◌≤ℤ◌, ◌↔◌, IsTrue};
-ghost use Rattle.cr_model.specs.Queries.{IsWithin, MeetsCom};
+ghost use Rattle.cr_model.specs.Queries.{IsWithin};
 ghost use Rattle.cr_model.specs.Dead.{above_com, below_com};
 
 use cr_model::Com;
@@ -21,34 +21,24 @@ pub fn falls_short(number: u128, least: i64) -> bool
 }
 
 /// Whether a number is no less than the least.
-pub fn reaches(number: u64, least: i64) -> bool
+pub fn reaches(number: u128, least: i64) -> bool
     ensures { IsTrue result ↔ (least ≤ℤ pos number) }
 {
-    least <= 0 || least.unsigned_abs() <= number
+    least <= 0 || u128::from(least.unsigned_abs()) <= number
 }
 
 // Whether a number is no greater than the greatest.
-fn stays_below(number: u64, greatest: i64) -> bool
+fn stays_below(number: u128, greatest: i64) -> bool
     ensures { IsTrue result ↔ (pos number ≤ℤ greatest) }
 {
-    greatest >= 0 && number <= greatest.unsigned_abs()
+    greatest >= 0 && number <= u128::from(greatest.unsigned_abs())
 }
 
 /// Whether a number is from the least to the greatest.
-pub fn is_within(least: i64, greatest: i64, number: u64) -> bool
+pub fn is_within(least: i64, greatest: i64, number: u128) -> bool
     ensures { IsTrue result ↔ IsWithin least greatest number }
 {
     reaches(number, least) && stays_below(number, greatest)
-}
-
-/// Whether a number of changes of method is within the limits, if there are some.
-pub fn meets_com(limits: Option<Com>, number: u64) -> bool
-    ensures { IsTrue result ↔ MeetsCom limits number }
-{
-    match limits {
-        Some(limits) => is_within(limits.min, limits.max, number),
-        None => true,
-    }
 }
 
 /// Whether a number of changes of method is above the limits, if there are some.

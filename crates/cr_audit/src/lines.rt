@@ -13,7 +13,7 @@ use crate::fault::AuditFault;
 use crate::judging::holds;
 use crate::nodes::is_node_text;
 use crate::path::{Path, node_text};
-use crate::reading::take_line;
+use crate::reading::{take_line, take_verdict};
 use crate::verdict::Verdict;
 use cr_model::Problem;
 
@@ -33,7 +33,7 @@ pub fn take_right<'a>(
     ensures stop { IfErr result (IsStop problem.now (dues problem.now due path.now.node.items) text.now number) }
 {
     let (why, rest) = take_due(problem, path, due, text, number)?;
-    if holds(problem, &path.node, &path.rows, why) {
+    if holds(problem, path, why) {
         Ok((why, rest))
     } else {
         Err(AuditFault::Verdict(number))
@@ -54,6 +54,11 @@ fn take_due<'a>(
     ensures stop { IfErr result (IsStop problem.now (dues problem.now due path.now.node.items) text.now number) }
 {
     let _ = problem.stage();
+    if due {
+        if let Some((why, rest)) = take_verdict(text, node_text(path)) {
+            return Ok((why, rest));
+        }
+    }
     let Some(((node, why), rest)) = take_line(text) else {
         return Err(AuditFault::Line(number));
     };

@@ -20,6 +20,18 @@ pub fn take_line(text: &[u8]) -> Option<((&[u8], Verdict), &[u8])>
     Some((raw, rest))
 }
 
+/// The verdict of the text's first line, and what comes after that line, where the line is this node's. None else, or where
+/// it is no line.
+pub fn take_verdict<'a>(text: &'a [u8], node: &[u8]) -> Option<(Verdict, &'a [u8])>
+    ensures { IfSome result (λ x. IsSmall x.0 × (text.now ≡ raw_text node.now x.0 ++ 10 ∷ x.1.now)) }
+{
+    let behind = after_word(text, node)?;
+    let words = after_word(behind, b" ")?;
+    let (verdict, rest) = split_at_byte(words, b'\n')?;
+    let why = verdict_of(verdict)?;
+    Some((why, rest))
+}
+
 // The node's text and the verdict of a line without its line feed.
 fn raw_of(line: &[u8]) -> Option<(&[u8], Verdict)>
     ensures some { IfSome result (λ x. (Lacks 32 x.0.now × IsSmall x.1) × (line.now ≡ raw_text x.0.now x.1)) }

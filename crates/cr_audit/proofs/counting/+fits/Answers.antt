@@ -1,6 +1,6 @@
 use Rattle.std.proofs.Common.{◌≡◌, ◌<◌, ◌∷◌, length, sym, ap, ◌∙◌, rules, arith}
 use Rattle.cr_model.specs.declared.query.Cell.TheVariants as cell
-use Rattle.cr_audit.proofs.Fitting.{fits_nothing, fits_one, fits_later, fits_never}
+use Rattle.cr_audit.proofs.FittingCells.{fits_nothing, fits_one, fits_later, fits_never}
 use Rattle.cr_audit.proofs.counting.+fits.Goals as goal
 
 pub returns-in_default : goal.returns-in_default

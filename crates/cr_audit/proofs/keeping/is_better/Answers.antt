@@ -1,24 +1,36 @@
-use Rattle.std.proofs.Common.{sym, subst}
-use Rattle.std.proofs.lemmas.Result.{IfOk-weaker}
-use Rattle.cr_model.specs.Callings.{HasSteps}
+use Rattle.std.proofs.Common.{◌≡◌, ℕ, List, sym, ap, ◌∙◌, subst}
+use Rattle.std.proofs.lemmas.Bool.{false≢true}
+use Rattle.cr_model.specs.Callings.{rows_of}
 use Rattle.cr_model.specs.Decided.{rotated}
-use Rattle.cr_model.specs.Queries.{Meets}
-use Rattle.cr_model.specs.Touches.{IsLess}
-use Rattle.cr_audit.proofs.KeptCallings.{steps_turned}
+use Rattle.cr_model.specs.Queries.{MeetsCom, changes_of_method}
+use Rattle.cr_audit.specs.Keeping.{AreRowsAsked}
+use Rattle.cr_audit.proofs.Kept.{rotation_meets}
 use Rattle.cr_audit.proofs.keeping.is_better.Goals as goal
+use Rattle.cr_audit.proofs.keeping.is_better.Goals.{then-is_com_met, else-is_com_met}
 
-pub meets-requires-clause-steps : goal.meets-requires-clause-steps
-meets-requires-clause-steps c =
-    subst (HasSteps c.args.problem.now) (sym c.in_ok-rotation.ensures) (steps_turned c.args.problem.now c.args.calling.now c.args.by c.requires.steps)
-
-pub returns-then-is_less : goal.returns-then-is_less
-returns-then-is_less c =
+pub returns : goal.returns
+returns c =
     let p = c.args.problem.now in
-    let calling = c.args.calling.now in
-    let less : IsLess (rotated c.args.by calling) calling = rw (c.steps.ensures.is, c.steps-2.ensures.is, c.in_ok-rotation.ensures) at (c.is_less.ensures.0 c.if-is_less.true) in
-    IfOk-weaker c.meets.result _ _
-    (λ met told. (
-      λ yes'. record { less = less; meets = subst (Meets p) c.in_ok-rotation.ensures (told.0 yes') },
-      λ better. told.1 (subst (Meets p) (sym c.in_ok-rotation.ensures) better.meets),
-    ))
-    c.meets.ensures
+    let steps = c.args.steps.now in
+    let by = c.args.by in
+    let turned : c.in_ok-rotation.rotation.items ≡ rotated by steps = c.in_ok-rotation.ensures in
+    let value : c.deref-2.result.now ≡ rotated by steps = c.deref-2.ensures.value ∙ turned in
+    let less = c.is_less_turned.ensures.0 c.if-not-is_less_turned.false in
+    let met = λ (is : MeetsCom p.query.com (changes_of_method p c.deref-2.result.now)). subst (λ (l : List ℕ). MeetsCom p.query.com (changes_of_method p l)) value is in
+    elim c.if-is_com_met.branch [
+      | then-is_com_met w ↦
+          let rows : w.deref-then-is_com_met.result.now ≡ rows_of p (rotated by steps) =
+          w.deref-then-is_com_met.ensures.value ∙ c.in_ok-ring_rest.ensures ∙ ap (rows_of p) (c.deref.ensures.value ∙ turned) in (
+            λ yes'. record {
+              less = less;
+              meets = rotation_meets p steps (c.a_rotation_of_a_true_touch_is_one.ensures p steps) c.requires.wanted by
+                  (met (c.is_com_met.ensures.0 w.if-is_com_met.true))
+                  (subst (AreRowsAsked p) rows (w.are_rows_asked.ensures.0 (sym w.result-is ∙ yes')));
+            },
+            λ better. w.result-is ∙ w.are_rows_asked.ensures.1 (subst (AreRowsAsked p) (sym rows) better.meets.patterns),
+          )
+      | else-is_com_met w ↦ (
+        λ yes'. absurd (false≢true (sym w.if-is_com_met.false ∙ sym w.result-is ∙ yes')),
+        λ better. absurd (false≢true (sym w.if-is_com_met.false ∙ c.is_com_met.ensures.1 (subst (λ (l : List ℕ). MeetsCom p.query.com (changes_of_method p l)) (sym value) better.meets.com))),
+      )
+    ]

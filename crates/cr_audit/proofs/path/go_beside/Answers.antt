@@ -18,4 +18,4 @@ loop-step-preserved c =
     let node = c.go_up.new.path.node.items in
     let is : c.loop-step.path.node.items ≡ child node c.in-Some.step = c.in-Some.ensures.node.1 in
     let last : length p.leads ≤ c.in-Some.step + 1 = search rules in
-    (c.go_up.ensures.at, sym (from_last p node c.in-Some.step last) ∙ ap (later p) (sym is) ∙ c.loop-step.invariant.1)
+    (c.close.ensures.at, ap (later p) c.close.ensures.same ∙ sym (from_last p node c.in-Some.step last) ∙ ap (later p) (sym is) ∙ c.loop-step.invariant.1)

@@ -4,8 +4,8 @@ use Rattle.cr_audit.proofs.walk.walk_lines.Goals as goal
 
 pub loop-rest-init : goal.loop-rest-init
 loop-rest-init c = record {
-  passed = started c.args.problem.now c.args.log.now c.start-walk.result c.start-walk.ensures.due c.start-walk.ensures.root c.start-walk.ensures.none;
-  walk = c.start-walk.ensures.walk c.args.problem.now;
+  passed = started c.args.problem.now c.args.log.now c.in_ok-walk.walk c.in_ok-walk.ensures.due c.in_ok-walk.ensures.root c.in_ok-walk.ensures.none;
+  walk = c.in_ok-walk.ensures.walk;
   few = omega arith;
 }
 

@@ -1,0 +1,12 @@
+use Rattle.std.proofs.Common.{◌≡◌, true, take}
+use Rattle.std.specs.List.{list_all}
+use Rattle.std.specs.Char.{is_ascii_digit}
+use Rattle.std.specs.Str.Parse.{digits_value}
+use Rattle.cr_audit.proofs.digits.sum_of.Given as goal
+
+-- the bytes so far are digits, and the sum is what they write
+abbrev pub invariant-loop-byte : goal.invariant-loop-byte
+invariant-loop-byte l = record {
+  all : list_all is_ascii_digit (take l.byte-index l.digits) ≡ true;
+  sum : l.sum ≡ digits_value 10 (take l.byte-index l.digits);
+}
