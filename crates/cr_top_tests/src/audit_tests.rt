@@ -1,7 +1,7 @@
 //! What no clause says: logs of whole searches and audits of them, with ample memory, and what is refused.
 
 use crate::stop_tests::{DOUBLES, MINIMUS};
-use crate::test_calls::{Ending, answered, check, ends, ends_with};
+use crate::test_calls::{Ending, answered, check, check_faults, ends};
 use std::test::Fail;
 
 // The problem of Plain Bob Minimus as a block, and then more.
@@ -179,24 +179,13 @@ fn rows_that_come_again_are_logged(rt: HostRuntime) -> Result<(), Fail> {
     Ok(())
 }
 
-const UNREAD: Ending<'static> = (6, "", "ringsearch: read failed\n");
-
-const UNWRITTEN: Ending<'static> = (7, "", "ringsearch: write failed\n");
-
 // The words, and what is read.
 const FAILING: &[(&[&str], &str)] = &[(LOG, MINIMUS), (AUDIT, LOGGED)];
 
 #[test]
 fn reads_and_writes_that_fail_are_told(rt: HostRuntime) -> Result<(), Fail> {
     for &(words, input) in FAILING {
-        check(
-            "a read",
-            ends_with(&rt, words, input.as_bytes(), 50, (2, 0, 0), UNREAD)?,
-        )?;
-        check(
-            "a write",
-            ends_with(&rt, words, input.as_bytes(), 50, (0, 1, 0), UNWRITTEN)?,
-        )?;
+        check_faults(&rt, words, input.as_bytes())?;
     }
     Ok(())
 }

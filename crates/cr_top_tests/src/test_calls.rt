@@ -51,6 +51,25 @@ pub fn ends_with<R: AllocGlobal + Threads + Wait + Sync>(
     Ok(is_ending(status.code(), &sink, &notes, ending))
 }
 
+/// Checks that a call ends with the status of a failed read where its second read fails, and with that of a failed write
+/// where its first write does, and that nothing is written.
+pub fn check_faults<R: AllocGlobal + Threads + Wait + Sync>(
+    rt: &R,
+    words: &[&str],
+    input: &[u8],
+) -> Result<(), Fail> {
+    let unread = (6, "", "ringsearch: read failed\n");
+    let unwritten = (7, "", "ringsearch: write failed\n");
+    check(
+        "a read",
+        ends_with(rt, words, input, 50, (2, 0, 0), unread)?,
+    )?;
+    check(
+        "a write",
+        ends_with(rt, words, input, 50, (0, 1, 0), unwritten)?,
+    )
+}
+
 /// The status of a call of which nothing fails, and what it writes.
 pub fn answered<R: AllocGlobal + Threads + Wait + Sync>(
     rt: &R,
