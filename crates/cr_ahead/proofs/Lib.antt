@@ -3,3 +3,8 @@ pub mod Steps
 pub mod Filling
 pub mod Nodes
 pub mod Deciding
+pub mod Powers
+pub mod Home
+pub mod Items
+pub mod Kept
+pub mod LeadMoves

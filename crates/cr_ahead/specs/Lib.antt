@@ -4,4 +4,7 @@ pub mod Ways
 pub mod Cells
 pub mod Tables
 pub mod Rows
+pub mod Home
+pub mod Items
+pub mod LeadMoves
 pub mod Examples

@@ -6,6 +6,9 @@ ghost use Rattle.cr_ahead.specs.Moves.{MovesParts, steps_of};
 ghost use Rattle.cr_ahead.specs.Ways.{place_after, length_of, gain_of, IsWay, HasNoWay, IsLeastGain, IsGreatestGain, IsAnswer};
 
 pub mod examples;
+pub mod home;
+pub mod home_examples;
+pub mod lead_moves;
 
 /// For a place and a length there is one right answer. It is None exactly where there is no way, and its least gain is
 /// no greater than its greatest.

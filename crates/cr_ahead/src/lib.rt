@@ -10,7 +10,8 @@
 //! - [`Ahead::at`]: for a place and the length of a part there, the least and the greatest gain of all ways
 //!   ([`Gains`]), or that there is none. It takes constant time and no memory.
 //!
-//! The functions of [`laws`] do nothing: the contract of each is what is proved of ways.
+//! The functions of [`laws`] do nothing: the contract of each is what is proved of ways, and of the ways home of a
+//! problem, on which a node of a search that cannot come to what is asked has no kept touch below it.
 //!
 //! ```rust
 //! // Two places, of which the first is an end, and one step, which leads to the other place and gains 1 on its way home.
