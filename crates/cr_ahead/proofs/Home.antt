@@ -50,16 +50,18 @@ end_decided p row =
     (all_decided (λ fewer. not (is_round_after p row fewer)) (λ fewer. power p.stage row fewer ≢ rounds p.stage)
     (λ fewer. Decides-not (is_round_after p row fewer) (round_decided p row fewer)) (fewer_parts p)))
   where
+    long : length (fewer_parts p) ≡ parts_of p - 1
+    long = length-range_with_len 1 _ ∙ omega arith
+
     each : All (λ fewer. power p.stage row fewer ≢ rounds p.stage) (fewer_parts p) → (fewer : ℕ) → 0 < fewer → fewer < parts_of p → power p.stage row fewer ≢ rounds p.stage
     each all fewer some less =
-        let at : get_or (fewer_parts p) (fewer - 1) 0 ≡ fewer = get_or-range_with_len 1 (parts_of p - 1) (fewer - 1) 0 (omega arith) ∙ omega arith in
-        subst (λ (n : ℕ). power p.stage row n ≢ rounds p.stage) at (all (fewer - 1) 0 (omega (arith, length-range_with_len 1 (parts_of p - 1))))
+        let at : get_or (fewer_parts p) (fewer - 1) 0 ≡ fewer = get_or-range_with_len 1 _ (fewer - 1) 0 (omega arith) ∙ omega arith in
+        subst (λ (n : ℕ). power p.stage row n ≢ rounds p.stage) at (all (fewer - 1) 0 (omega (arith, long)))
 
     other : IsPartEnd p row → (k d : ℕ) → k < length (fewer_parts p) → power p.stage row (get_or (fewer_parts p) k d) ≢ rounds p.stage
     other end k d inside =
-        let short : k < parts_of p - 1 = omega (arith, length-range_with_len 1 (parts_of p - 1)) in
-        let at : 1 + k ≡ get_or (fewer_parts p) k d = sym (get_or-range_with_len 1 (parts_of p - 1) k d short) in
-        subst (λ (n : ℕ). power p.stage row n ≢ rounds p.stage) at (end.not_before (1 + k) (omega arith) (omega arith))
+        let at : 1 + k ≡ get_or (fewer_parts p) k d = sym (get_or-range_with_len 1 _ k d (omega (arith, long))) in
+        subst (λ (n : ℕ). power p.stage row n ≢ rounds p.stage) at (end.not_before (1 + k) (omega arith) (omega (arith, long)))
 
 -- a way home
 pub way_decided : (p : ProblemParts) (node way : List ℕ) → Decides (is_way_home p node way) (IsWayHome p node way)

@@ -42,7 +42,7 @@ module _ (joined : HeadsMultiply) (p : ProblemParts) (node calling : List ℕ) (
   -- no item that it cannot meet is one of the query's
   pub not_cannot_meet : (item : Item) → Within calling item → CannotMeet p node item → ⊥
   not_cannot_meet item within cannot =
-      let same : item.number_of calling ≡ number_with p node item is.rest = ap item.number_of is.whole in
+      let same : item.number_of calling ≡ number_with p node item is.rest = omega (arith, ap item.number_of is.whole) in
       elim cannot [
         | inl above ↦ let over : item.max <ℤ pos (number_with p node item is.rest) = above is.rest kept_way in
             let under : pos (item.number_of calling) ≤ℤ item.max = within.at_most in absurd (omega (arith, ints))

@@ -154,7 +154,7 @@ module _ (p : ProblemParts) (heads : List (List ℕ)) (m : MovesParts) (place : 
       let steps : HasSteps p way = subst (λ (n : ℕ). All (λ s. s < n) way) moves.steps is.are_steps in
       let part = part_length way steps in
       let enough : nat_abs p.query.min ≤ parts_of p * length_of p (node ++ way) =
-      (part_reaches (nat_abs p.query.min) (parts_of p) (length_of p (node ++ way)) (some_parts p sound)).0 (subst (λ (n : ℕ). part_least p ≤ n) part is.at_least) in
+      (part_reaches (nat_abs p.query.min) (parts_of p) (length_of p (node ++ way)) (some_parts p sound)).0 (omega (arith, is.at_least, part)) in
       let few : parts_of p * length_of p (node ++ way) ≤ cap p =
       (part_fits (cap p) (parts_of p) (length_of p (node ++ way)) (some_parts p sound)).0 (subst (λ (n : ℕ). n ≤ part_cap p) part is.at_most) in
       record {
