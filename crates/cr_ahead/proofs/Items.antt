@@ -2,13 +2,11 @@
 use Rattle.std.proofs.Common.{◌≡◌, ℕ, ◌≤◌, pos, ◌≤ℤ◌, List, [], ◌∷◌, ◌++◌, length, map, All, Option, Some, None, refl, subst, take_at, drop_at}
 use Rattle.std.proofs.lemmas.List.Elements.{All-nil, All-cons, All-head, All-tail, All-append, All-map, All-take, All-drop}
 use Rattle.cr_model.specs.declared.query.Com.{Com}
-use Rattle.cr_model.specs.declared.query.Count.{Count}
-use Rattle.cr_model.specs.declared.query.MethodCount.{MethodCount}
-use Rattle.cr_model.specs.Problems.{PatternParts, ProblemParts}
-use Rattle.cr_model.specs.Callings.{rows_of, length_of}
-use Rattle.cr_model.specs.Queries.{cap, IsWithin, leads_marked, leads_lettered, rows_fitting, changes_of_method, MeetsCom, Meets}
+use Rattle.cr_model.specs.Problems.{ProblemParts}
+use Rattle.cr_model.specs.Callings.{length_of}
+use Rattle.cr_model.specs.Queries.{cap, IsWithin, changes_of_method, MeetsCom, Meets}
 use Rattle.cr_model.specs.OneTurn.{touch_of}
-use Rattle.cr_ahead.specs.Items.{Item, com_items, items_of}
+use Rattle.cr_ahead.specs.Items.{Item, count_item, method_item, pattern_item, com_item, com_items, items_of}
 
 -- what holds of all of two lists holds of each of them
 module _ {X : Type 0} (P : X → Type 0) (xs ys : List X) (all : All P (xs ++ ys)) where
@@ -28,24 +26,15 @@ all_unmapped P f (x ∷ xs) all =
 abbrev pub Within : List ℕ → Item → Type 0
 Within calling item = IsWithin item.min item.max (item.number_of calling)
 
-abbrev count_item : ProblemParts → Count → Item
-count_item p count = record { number_of = leads_marked p count.mark; min = count.min; max = count.max }
-
-abbrev method_item : ProblemParts → MethodCount → Item
-method_item p count = record { number_of = leads_lettered p count.letter; min = count.min; max = count.max }
-
-abbrev pattern_item : ProblemParts → PatternParts → Item
-pattern_item p pattern = record { number_of = λ calling. rows_fitting pattern.cells (rows_of p calling); min = pattern.min; max = pattern.max }
-
 module _ (p : ProblemParts) (calling : List ℕ) where
   com_within : (limits : Option Com) → MeetsCom limits (changes_of_method p calling) → All (Within calling) (com_items p limits)
   com_within None meets = All-nil (Within calling)
   com_within (Some limits) meets =
-      All-cons (Within calling) (record { number_of = changes_of_method p; min = limits.min; max = limits.max }) [] meets (All-nil (Within calling))
+      All-cons (Within calling) (com_item p limits) [] meets (All-nil (Within calling))
 
   com_meets : (limits : Option Com) → All (Within calling) (com_items p limits) → MeetsCom limits (changes_of_method p calling)
   com_meets None all = tt
-  com_meets (Some limits) all = All-head (Within calling) (record { number_of = changes_of_method p; min = limits.min; max = limits.max }) [] all
+  com_meets (Some limits) all = All-head (Within calling) (com_item p limits) [] all
 
   pub items_within : Meets p calling → All (Within calling) (items_of p)
   items_within meets =

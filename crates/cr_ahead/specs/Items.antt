@@ -2,7 +2,9 @@
 use Rattle.std.specs.Prelude.{ℕ, Bool, false, ◌||◌, ◌⊎◌, ℤ, pos, int_lt, ◌<ℤ◌, List, [], ◌∷◌, ◌++◌, map, Any, Option, Some, None}
 use Rattle.std.specs.List.{list_any}
 use Rattle.cr_model.specs.declared.query.Com.{Com}
-use Rattle.cr_model.specs.Problems.{ProblemParts}
+use Rattle.cr_model.specs.declared.query.Count.{Count}
+use Rattle.cr_model.specs.declared.query.MethodCount.{MethodCount}
+use Rattle.cr_model.specs.Problems.{PatternParts, ProblemParts}
 use Rattle.cr_model.specs.Callings.{rows_of}
 use Rattle.cr_model.specs.Queries.{leads_marked, leads_lettered, rows_fitting, changes_of_method}
 use Rattle.cr_ahead.specs.Home.{touch_with, IsWayHome, HasNoWayHome, each_way_home}
@@ -13,17 +15,29 @@ pub record Item : Type 0 where
   pub min : ℤ
   pub max : ℤ
 
--- the limit on changes of method, if there is one
+-- a count of a mark, a count of a method, a pattern, and the limit on changes of method, as items
+abbrev pub count_item : ProblemParts → Count → Item
+count_item p count = record { number_of = leads_marked p count.mark; min = count.min; max = count.max }
+
+abbrev pub method_item : ProblemParts → MethodCount → Item
+method_item p count = record { number_of = leads_lettered p count.letter; min = count.min; max = count.max }
+
+abbrev pub pattern_item : ProblemParts → PatternParts → Item
+pattern_item p pattern = record { number_of = λ calling. rows_fitting pattern.cells (rows_of p calling); min = pattern.min; max = pattern.max }
+
+abbrev pub com_item : ProblemParts → Com → Item
+com_item p limits = record { number_of = changes_of_method p; min = limits.min; max = limits.max }
+
 abbrev pub com_items : ProblemParts → Option Com → List Item
 com_items p None = []
-com_items p (Some limits) = record { number_of = changes_of_method p; min = limits.min; max = limits.max } ∷ []
+com_items p (Some limits) = com_item p limits ∷ []
 
--- the counts of marks, the counts of methods, the patterns, and the limit on changes of method
+-- all items of a query
 abbrev pub items_of : ProblemParts → List Item
 items_of p =
-    map (λ count. record { number_of = leads_marked p count.mark; min = count.min; max = count.max }) p.query.counts
-    ++ (map (λ count. record { number_of = leads_lettered p count.letter; min = count.min; max = count.max }) p.query.method_counts
-    ++ (map (λ pattern. record { number_of = λ calling. rows_fitting pattern.cells (rows_of p calling); min = pattern.min; max = pattern.max }) p.query.patterns
+    map (count_item p) p.query.counts
+    ++ (map (method_item p) p.query.method_counts
+    ++ (map (pattern_item p) p.query.patterns
     ++ com_items p p.query.com))
 
 -- what a touch of a node has of an item, by the way home. It is the number of the whole touch, not of its part

@@ -3,7 +3,10 @@
 
 ghost use Rattle.std.specs.Prelude.{◌≡◌, ℕ, ◌+◌, ◌-◌, ◌*◌, ◌≤◌, ◌↔◌, List, [], get_or, Option, None, IsNone};
 ghost use Rattle.cr_model.specs.declared.query.Cell.{Cell};
-ghost use Rattle.cr_model.specs.Problems.{ProblemParts};
+ghost use Rattle.cr_model.specs.declared.query.Com.{Com};
+ghost use Rattle.cr_model.specs.declared.query.Count.{Count};
+ghost use Rattle.cr_model.specs.declared.query.MethodCount.{MethodCount};
+ghost use Rattle.cr_model.specs.Problems.{PatternParts, ProblemParts};
 ghost use Rattle.cr_model.specs.Callings.{rows_of, length_of};
 ghost use Rattle.cr_model.specs.Queries.{part_cap, leads_marked, leads_lettered, rows_fitting, changes_of_method};
 ghost use Rattle.cr_model.specs.Sound.{IsSound};
@@ -13,6 +16,7 @@ ghost use Rattle.cr_ahead.specs.Moves.{MovesParts};
 ghost use Rattle.cr_ahead.specs.Ways.{gain_of, IsWay, Tells, IsAnswer};
 ghost use Rattle.cr_ahead.specs.Home.{touch_with, IsWayHome, HasNoWayHome};
 ghost use Rattle.cr_ahead.specs.Items.{Item, number_with, cannot_meet};
+ghost use Rattle.cr_ahead.specs.Items.{count_item, method_item, pattern_item, com_item};
 ghost use Rattle.cr_ahead.specs.LeadMoves.{part_least, AreMovesOf, IsPlaceOf, HaveGains, HaveMethods, last_method};
 ghost use Rattle.cr_ahead.specs.LeadMoves.{marked_gain, lettered_gain, fitting_gain, changing_gain, of_touches, refuses};
 
@@ -60,6 +64,34 @@ pub fn answers_tell_what_cannot_come()
     ensures item { (p : ProblemParts) (node : List ℕ) (item : Item) (gains : Option Gains) → IsSound p
         → Tells (IsWayHome p node) (number_with p node item) gains
         → cannot_meet p node item ≡ refuses item.min item.max gains }
+{}
+
+/// So a node cannot meet an item of a query exactly where the item's limits refuse what the moves answer: for a count of a mark
+/// and a count of a method, and in one part for a pattern and the limit on changes of method.
+pub fn answers_refuse_items()
+    ensures marks { (p : ProblemParts) (heads : List (List ℕ)) (m : MovesParts) (place : ℕ) (node : List ℕ) (gains : Option Gains) (count : Count)
+        → IsSound p → AreMovesOf p heads m → IsPlaceOf p heads place node → HaveGains p heads m (λ place step. marked_gain p count.mark step)
+        → IsAnswer m (part_least p) (part_cap p) place (length_of p node) gains
+        → cannot_meet p node (count_item p count)
+        ≡ refuses count.min count.max (of_touches (parts_of p) (leads_marked p count.mark node) gains) }
+    ensures methods { (p : ProblemParts) (heads : List (List ℕ)) (m : MovesParts) (place : ℕ) (node : List ℕ) (gains : Option Gains) (count : MethodCount)
+        → IsSound p → AreMovesOf p heads m → IsPlaceOf p heads place node → HaveGains p heads m (λ place step. lettered_gain p count.letter step)
+        → IsAnswer m (part_least p) (part_cap p) place (length_of p node) gains
+        → cannot_meet p node (method_item p count)
+        ≡ refuses count.min count.max (of_touches (parts_of p) (leads_lettered p count.letter node) gains) }
+    ensures rows { (p : ProblemParts) (heads : List (List ℕ)) (m : MovesParts) (place : ℕ) (node : List ℕ) (gains : Option Gains) (pattern : PatternParts)
+        → IsSound p → parts_of p ≡ 1 → AreMovesOf p heads m → IsPlaceOf p heads place node
+        → HaveGains p heads m (λ place step. fitting_gain p pattern.cells (get_or heads place []) step)
+        → IsAnswer m (part_least p) (part_cap p) place (length_of p node) gains
+        → cannot_meet p node (pattern_item p pattern)
+        ≡ refuses pattern.min pattern.max (of_touches 1 (rows_fitting pattern.cells (rows_of p node)) gains) }
+    ensures changes { (p : ProblemParts) (heads : List (List ℕ)) (m : MovesParts) (place : ℕ) (node : List ℕ) (gains : Option Gains)
+        (methods : List (Option ℕ)) (limits : Com) → IsSound p → parts_of p ≡ 1 → AreMovesOf p heads m → IsPlaceOf p heads place node
+        → HaveMethods p heads m methods → get_or methods place None ≡ last_method p node
+        → HaveGains p heads m (λ place step. changing_gain p (get_or methods place None) step)
+        → IsAnswer m (part_least p) (part_cap p) place (length_of p node) gains
+        → cannot_meet p node (com_item p limits)
+        ≡ refuses limits.min limits.max (of_touches 1 (changes_of_method p node) gains) }
 {}
 
 /// In several parts the changes of method at the joins of parts come to those that a way gains: up to one for each part but one.
