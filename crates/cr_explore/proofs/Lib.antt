@@ -9,3 +9,4 @@ pub mod Finishing
 pub mod Powers
 pub mod OneTest
 pub mod KeptTouches
+pub mod TouchParts

@@ -9,6 +9,7 @@
 //! - [`RowSearch`], [`TableSearch`]: a search without a falseness table, and one with it. A [`Search`] is either.
 //! - [`take_turns`]: the loop of turns over any path, and what it found and left ([`Explored`]).
 //! - [`NumberPath`], [`WalkPath`]: the paths.
+//! - [`first_unkept`]: the first of some touches that is not kept, told at the speed of the search.
 //!
 //! ```rust
 //! // `problem` is Plain Bob Minimus, whose tree has four nodes.
@@ -35,6 +36,7 @@ mod standing;
 mod table_search;
 mod tables;
 mod touches;
+mod unkept;
 mod walk_path;
 mod walking;
 
@@ -44,4 +46,5 @@ pub use path::Path;
 pub use row_search::RowSearch;
 pub use search::{Explored, take_turns};
 pub use table_search::TableSearch;
+pub use unkept::first_unkept;
 pub use walk_path::WalkPath;

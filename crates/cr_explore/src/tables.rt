@@ -1,10 +1,13 @@
 //! The tables of a problem's search, and turns over them.
 
-ghost use Rattle.std.specs.Prelude.{◌≡◌, ◌<◌, ◌≤◌, ◌⊎◌, [], length, All, IfOk, IfSome};
+ghost use Rattle.std.specs.Prelude.{◌≡◌, ◌<◌, ◌≤◌, ◌⊎◌, [], length, get_or, All, IfOk, IfSome};
 ghost use Rattle.cr_false.specs.Sets.{IsFalseTable};
 ghost use Rattle.cr_leads.specs.Tables.{lead_table};
+ghost use Rattle.cr_model.specs.Callings.{HasSteps};
+ghost use Rattle.cr_model.specs.Checks.{TellsFirst};
 ghost use Rattle.cr_model.specs.Nodes.{IsValid};
 ghost use Rattle.cr_model.specs.Sizes.{most_rows};
+ghost use Rattle.cr_model.specs.Touches.{Kept};
 ghost use Rattle.cr_node.specs.Work.{IsDone, IsJob};
 ghost use Rattle.cr_path.specs.Counted.{AsksNothing};
 ghost use Rattle.cr_path.specs.Numbers.{IsNumbered};
@@ -14,10 +17,11 @@ ghost use Rattle.cr_explore.specs.Turns.{after_turns};
 use crate::laws::turns_are_finished_work;
 use crate::number_path::NumberPath;
 use crate::search::{Explored, take_turns};
+use crate::unkept::{first_by_numbers, first_by_ringing};
 use crate::walk_path::WalkPath;
 use cr_false::FalseTable;
 use cr_leads::LeadTable;
-use cr_model::Problem;
+use cr_model::{Calling, Problem};
 use cr_node::{Done, Node};
 use cr_path::{NumberTable, is_counted};
 use cr_reach::ReachTable;
@@ -118,6 +122,38 @@ impl Tables {
         let _ = self.problem.stage();
         let explored = self.take_turns(alloc, table, job, turns)?;
         finished(alloc, &self.problem, job, explored)
+    }
+
+    /// The first of some touches that is not kept, told by numbers where there are some, and else by a walk that rings. Err
+    /// where no memory is left.
+    pub fn first_unkept(
+        &self,
+        alloc: Global,
+        touches: &[Calling],
+    ) -> Result<Option<usize>, NoMemory>
+        requires { All (HasSteps self.now) touches.now }
+        ensures { IfOk result (TellsFirst (λ i. Kept self.now (get_or touches.now i [])) (length touches.now)) }
+    {
+        let problem = &self.problem;
+        let leads = &self.leads;
+        let Some(numbers) = &self.numbers else {
+            return first_by_ringing(alloc, problem, leads, touches);
+        };
+        // The widths are those of `take_turns`.
+        match numbers.width() {
+            2 => first_by_numbers::<2>(alloc, problem, leads, numbers, touches),
+            3 => first_by_numbers::<3>(alloc, problem, leads, numbers, touches),
+            4 => first_by_numbers::<4>(alloc, problem, leads, numbers, touches),
+            6 => first_by_numbers::<6>(alloc, problem, leads, numbers, touches),
+            8 => first_by_numbers::<8>(alloc, problem, leads, numbers, touches),
+            12 => first_by_numbers::<12>(alloc, problem, leads, numbers, touches),
+            16 => first_by_numbers::<16>(alloc, problem, leads, numbers, touches),
+            24 => first_by_numbers::<24>(alloc, problem, leads, numbers, touches),
+            32 => first_by_numbers::<32>(alloc, problem, leads, numbers, touches),
+            64 => first_by_numbers::<64>(alloc, problem, leads, numbers, touches),
+            128 => first_by_numbers::<128>(alloc, problem, leads, numbers, touches),
+            _ => first_by_ringing(alloc, problem, leads, touches),
+        }
     }
 
     // Turns on a job, by numbers where there are some, and else by a walk.

@@ -5,12 +5,10 @@ ghost use Rattle.std.specs.declared.cmp.Ordering.TheVariants.{Less};
 ghost use Rattle.cr_model.specs.Callings.{HasSteps, length_of as changes_in};
 ghost use Rattle.cr_model.specs.Books.{book_order};
 ghost use Rattle.cr_model.specs.Checks.{TellsFirst};
-ghost use Rattle.cr_store.specs.Faults.{IsShortNode, IsKeptAt, Follows};
+ghost use Rattle.cr_store.specs.Faults.{IsShortNode, Follows};
 
-use cr_leads::LeadTable;
 use cr_model::{Calling, Problem};
 use cr_node::Node;
-use cr_query::is_kept;
 use cr_row::NoMemory;
 use std::alloc::Global;
 
@@ -37,24 +35,6 @@ pub fn first_long(
     let most = problem.part_cap();
     for (index, node) in nodes.iter().enumerate() {
         if length_of(alloc, problem, node)? > most {
-            return Ok(Some(index));
-        }
-    }
-    Ok(None)
-}
-
-/// The first touch that is not kept.
-pub fn first_unkept(
-    alloc: Global,
-    problem: &Problem,
-    found: &[Calling],
-) -> Result<Option<usize>, NoMemory>
-    requires { All (HasSteps problem.now) found.now }
-    ensures { IfOk result (TellsFirst (IsKeptAt problem.now found.now) (length found.now)) }
-{
-    let leads = LeadTable::new(alloc, problem)?;
-    for (index, touch) in found.iter().enumerate() {
-        if !is_kept(alloc, problem, &leads, touch)? {
             return Ok(Some(index));
         }
     }

@@ -6,13 +6,14 @@ ghost use Rattle.cr_store.specs.Lines.{HasItems, last_in, outline_of};
 ghost use Rattle.cr_store.specs.Reading.{AreOutlined, outline_parts};
 ghost use Rattle.cr_store.specs.Faults.{OrNoMemory, IsUnread, AnswersFor, AnswersForAll, lengths_check, kept_check, order_check, overlap_check, item_checks};
 
-use crate::checking::{first_long, first_out_of_order, first_unkept};
+use crate::checking::{first_long, first_out_of_order};
 use crate::fault::CheckFault;
 use crate::lines::line_of;
 use crate::outline::Outline;
 use crate::reading::{read_nodes, read_touches};
 use crate::shape::Shape;
 use cr_book::laws::callings_differ_in_their_texts;
+use cr_explore::first_unkept;
 use cr_model::{Calling, Problem};
 use cr_node::{Node, independent};
 use std::alloc::Global;
