@@ -1,8 +1,6 @@
 -- The texts of steps: whose they are, and what two nodes share.
-use Rattle.std.proofs.Common.{◌≡◌, ℕ, zero, suc, ◌+◌, ◌-◌, ◌<◌, ◌≤◌, ◌⊎◌, Bool, true, false, cond, nat_eq, List, [], ◌∷◌, ◌++◌, length, get_or, take, drop, min, All, Some, inl, inr, refl, sym, ap, ap₂, ◌∙◌, subst, arith, codes, eqb-true, take-append-drop}
+use Rattle.std.proofs.Common.{◌≡◌, ℕ, zero, suc, ◌+◌, ◌-◌, ◌<◌, ◌≤◌, ◌⊎◌, Bool, true, false, cond, nat_eq, List, [], ◌∷◌, ◌++◌, length, get_or, take, drop, map, min, All, Some, inl, inr, refl, sym, ap, ap₂, ◌∙◌, subst, arith, codes, eqb-true, take-append-drop}
 use Rattle.std.specs.List.{slice_get}
-use Rattle.std.specs.Global.{Vec}
-use Rattle.cr_store.specs.Written.{lists}
 use Rattle.std.proofs.lemmas.Bool.{cases_lt}
 use Rattle.std.proofs.lemmas.List.{take_at, drop_at, drop_all, length-take, length-drop}
 use Rattle.std.proofs.lemmas.List.Elements.{All-head, All-take, All-drop, All-append}
@@ -129,16 +127,16 @@ shared_past before node i past = elim (cases_lt (length before) (length node)) [
   | inr more ↦ shared_at_end before node i (inr (omega (arith, past, more)))
 ]
 
--- what holds of the nodes of all jobs holds of those of one
-pub job_known : (p : ProblemParts) (jobs : List (Vec (List ℕ))) (i : ℕ) (job : Vec (List ℕ)) → i < length jobs → job ≡ get_or jobs i job
-    → All (HasSteps p) (nodes_of_jobs (lists jobs)) → All (HasSteps p) job.items
-job_known p [] i job inside is known = absurd (omega arith)
-job_known p (first ∷ jobs) zero job inside is known =
-    subst (λ j. All (HasSteps p) j.items) (sym is) (subst (All (HasSteps p)) (take_at first.items (nodes_of_jobs (lists jobs)) (length first.items) refl)
-    (All-take (HasSteps p) (length first.items) (nodes_of_jobs (lists (first ∷ jobs))) known))
-job_known p (first ∷ jobs) (suc i) job inside is known =
-    job_known p jobs i job (omega arith) is (subst (All (HasSteps p)) (drop_at first.items (nodes_of_jobs (lists jobs)) (length first.items) refl)
-    (All-drop (HasSteps p) (length first.items) (nodes_of_jobs (lists (first ∷ jobs))) known))
+-- what holds of the nodes of all jobs holds of those of one, wherever they lie
+pub job_known : {A : Type 0} (nodes_of : A → List (List ℕ)) (p : ProblemParts) (jobs : List A) (i : ℕ) (job : A) → i < length jobs → job ≡ get_or jobs i job
+    → All (HasSteps p) (nodes_of_jobs (map nodes_of jobs)) → All (HasSteps p) (nodes_of job)
+job_known nodes_of p [] i job inside is known = absurd (omega arith)
+job_known nodes_of p (first ∷ jobs) zero job inside is known =
+    subst (λ j. All (HasSteps p) (nodes_of j)) (sym is) (subst (All (HasSteps p)) (take_at (nodes_of first) (nodes_of_jobs (map nodes_of jobs)) (length (nodes_of first)) refl)
+    (All-take (HasSteps p) (length (nodes_of first)) (nodes_of_jobs (map nodes_of (first ∷ jobs))) known))
+job_known nodes_of p (first ∷ jobs) (suc i) job inside is known =
+    job_known nodes_of p jobs i job (omega arith) is (subst (All (HasSteps p)) (drop_at (nodes_of first) (nodes_of_jobs (map nodes_of jobs)) (length (nodes_of first)) refl)
+    (All-drop (HasSteps p) (length (nodes_of first)) (nodes_of_jobs (map nodes_of (first ∷ jobs))) known))
 
 -- where a line leaves out more steps than the node before has, it is that of none
 pub too_many_left_out : (p : ProblemParts) (version : ℕ) (before : List ℕ) (line : NodeParts) → length before < line.shared

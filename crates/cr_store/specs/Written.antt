@@ -1,6 +1,7 @@
 -- A board as it is written: what was found in the book's order, and all jobs.
 use Rattle.std.specs.Prelude.{◌≡◌, ℕ, List, [], ◌∷◌, ◌++◌, length, map, codes, Option, Some, None}
 use Rattle.std.specs.Global.{Vec}
+use denote.Ref.{Bor}
 use Rattle.std.specs.List.Sorted.{IsPermutation, IsSorted}
 use Rattle.cr_model.specs.Problems.{ProblemParts}
 use Rattle.cr_model.specs.Books.{book_order}
@@ -12,6 +13,10 @@ pub use Rattle.cr_board.specs.Boards.{board_jobs}
 -- jobs as lists of their nodes
 abbrev pub lists : List (Vec (List ℕ)) → List (List (List ℕ))
 lists jobs = map (λ job. job.items) jobs
+
+-- jobs whose nodes lie together elsewhere
+abbrev pub jobs_seen : List (Bor (List (List ℕ))) → List (List (List ℕ))
+jobs_seen jobs = map (λ job. job.now) jobs
 
 -- the nodes of a job that may be
 abbrev pub nodes_held : Option JobParts → List (List (List ℕ))

@@ -9,7 +9,7 @@ ghost use Rattle.cr_model.specs.Checkpoints.{CanGoOn, nodes_of_jobs};
 ghost use Rattle.cr_board.specs.Jobs.{opening_nodes};
 ghost use Rattle.cr_board.specs.Boards.{held_jobs, board_jobs};
 ghost use Rattle.cr_store.specs.Searches.{WentOn};
-ghost use Rattle.cr_store.specs.Written.{lists, nodes_held};
+ghost use Rattle.cr_store.specs.Written.{lists, jobs_seen, nodes_held};
 
 use cr_board::laws::{each_touch_stands_once, partitions_follow_one_another};
 use cr_board::{Board, LaneJob};
@@ -66,33 +66,37 @@ pub fn remaining_in_order(
         → Covers problem.now left.found.items (nodes_of_jobs (lists left.jobs.items)) calling
         ↔ Covers problem.now before (nodes_of_jobs begun) calling) }
 {
-    each_touch_stands_once();
-    partitions_follow_one_another();
-    what_is_sorted_is_the_book();
-    let found = sort_found(alloc, problem, found)?;
+    let found = in_order(alloc, problem, found)?;
     Ok(Remaining { found, jobs })
 }
 
-/// The same of a board that is not taken apart, whose touches and nodes are copied.
-pub fn copy_remaining_of(alloc: Global, board: &Board) -> Result<Remaining, NoMemory>
-    ensures jobs { IfOk result (λ left. lists left.jobs.items ≡ board_jobs board.now) }
-    ensures found { IfOk result (λ left. IsPermutation board.now.found left.found.items) }
-    ensures goes_on { IfOk result (λ left. CanGoOn board.now.opening.problem left.found.items (lists left.jobs.items)) }
+// Found touches in the book's order. Where a search that found them has some jobs left, one can go on from these and
+// them, and covers what that search went on from.
+fn in_order(alloc: Global, problem: &Problem, found: Vec<Calling>) -> Result<Vec<Calling>, NoMemory>
+    requires { All (Kept problem.now) found.items }
+    ensures same { IfOk result (λ sorted. IsPermutation found.items sorted.items) }
+    ensures goes_on { IfOk result (λ sorted. (before : List (List ℕ)) (begun left : List (List (List ℕ))) (spent : ℕ)
+        → WentOn problem.now before begun found.items left spent → CanGoOn problem.now sorted.items left) }
+    ensures covers { IfOk result (λ sorted. (before : List (List ℕ)) (begun left : List (List (List ℕ))) (spent : ℕ)
+        → WentOn problem.now before begun found.items left spent → (calling : List ℕ)
+        → Covers problem.now sorted.items (nodes_of_jobs left) calling ↔ Covers problem.now before (nodes_of_jobs begun) calling) }
 {
-    let found = copy_callings(alloc, board.found())?;
-    let jobs = jobs_of(alloc, board)?;
-    let left = remaining_in_order(alloc, board.opening().problem(), found, jobs)?;
-    Ok(left)
+    each_touch_stands_once();
+    partitions_follow_one_another();
+    what_is_sorted_is_the_book();
+    let sorted = sort_found(alloc, problem, found)?;
+    Ok(sorted)
 }
 
-// The jobs of a board: those of the lanes, and then those that are held.
-fn jobs_of(alloc: Global, board: &Board) -> Result<Vec<Vec<Node>>, NoMemory>
-    ensures { IfOk result (λ jobs. lists jobs.items ≡ board_jobs board.now) }
+/// A copy of what a board found, in the book's order. A search can go on from it and the board's jobs. Err where no
+/// memory is left.
+pub fn found_in_order(alloc: Global, board: &Board) -> Result<Vec<Calling>, NoMemory>
+    ensures same { IfOk result (λ found. IsPermutation board.now.found found.items) }
+    ensures goes_on { IfOk result (λ found. CanGoOn board.now.opening.problem found.items (board_jobs board.now)) }
 {
-    let mut jobs = Vec::new(alloc);
-    add_lanes(alloc, &mut jobs, board)?;
-    add_held(alloc, &mut jobs, board)?;
-    Ok(jobs)
+    let copy = copy_callings(alloc, board.found())?;
+    let found = in_order(alloc, board.opening().problem(), copy)?;
+    Ok(found)
 }
 
 // The same callings again.
@@ -106,66 +110,61 @@ fn copy_callings(alloc: Global, callings: &[Calling]) -> Result<Vec<Calling>, No
     Ok(copy)
 }
 
-// The same nodes again.
-fn copy_nodes(alloc: Global, nodes: &[Node]) -> Result<Vec<Node>, NoMemory>
-    ensures { IfOk result (λ copy. copy.items ≡ nodes.now) }
+/// The jobs of a board: those of the lanes, and then those that are held. Their nodes stay where they are. Err where no
+/// memory is left.
+pub fn jobs_of(alloc: Global, board: &Board) -> Result<Vec<&[Node]>, NoMemory>
+    ensures { IfOk result (λ jobs. jobs_seen jobs.items ≡ board_jobs board.now) }
 {
-    let mut copy = Vec::with_capacity(alloc, nodes.len())?;
-    for node in nodes {
-        copy.push(node.copy(alloc)?)?;
-    }
-    Ok(copy)
+    let mut jobs = Vec::new(alloc);
+    add_lanes(&mut jobs, board)?;
+    add_held(&mut jobs, board)?;
+    Ok(jobs)
 }
 
-// Appends the nodes of a job.
-fn add_job(alloc: Global, jobs: &mut Vec<Vec<Node>>, job: &LaneJob) -> Result<(), NoMemory>
-    ensures { IfOk result (λ _. lists jobs.new.items ≡ lists jobs.old.items ++ job.now.nodes ∷ []) }
+// Appends a job.
+fn add_job<'a>(jobs: &mut Vec<&'a [Node]>, job: &'a LaneJob) -> Result<(), NoMemory>
+    ensures { IfOk result (λ _. jobs_seen jobs.new.items ≡ jobs_seen jobs.old.items ++ job.now.nodes ∷ []) }
 {
-    let nodes = copy_nodes(alloc, &job.nodes)?;
-    jobs.push(nodes)?;
+    jobs.push(&job.nodes)?;
     Ok(())
 }
 
 // Appends the jobs of a lane.
-fn add_lane(alloc: Global, jobs: &mut Vec<Vec<Node>>, lane: &[LaneJob]) -> Result<(), NoMemory>
-    ensures { IfOk result (λ _. lists jobs.new.items ≡ lists jobs.old.items ++ map (λ job. job.nodes) lane.now) }
+fn add_lane<'a>(jobs: &mut Vec<&'a [Node]>, lane: &'a [LaneJob]) -> Result<(), NoMemory>
+    ensures { IfOk result (λ _. jobs_seen jobs.new.items ≡ jobs_seen jobs.old.items ++ map (λ job. job.nodes) lane.now) }
 {
     for job in lane {
-        add_job(alloc, jobs, job)?;
+        add_job(jobs, job)?;
     }
     Ok(())
 }
 
 // Appends the jobs of all lanes.
-fn add_lanes(alloc: Global, jobs: &mut Vec<Vec<Node>>, board: &Board) -> Result<(), NoMemory>
-    ensures { IfOk result (λ _. lists jobs.new.items ≡ lists jobs.old.items ++ map (λ job. job.nodes) (flat_map (λ lane. lane) board.now.lanes)) }
+fn add_lanes<'a>(jobs: &mut Vec<&'a [Node]>, board: &'a Board) -> Result<(), NoMemory>
+    ensures { IfOk result (λ _. jobs_seen jobs.new.items ≡ jobs_seen jobs.old.items ++ map (λ job. job.nodes) (flat_map (λ lane. lane) board.now.lanes)) }
 {
     for worker in 0..board.opening().workers() {
-        add_lane(alloc, jobs, board.lane(worker))?;
+        add_lane(jobs, board.lane(worker))?;
     }
     Ok(())
 }
 
 // Appends the job that a worker holds, if it holds one.
-fn add_held_job(
-    alloc: Global,
-    jobs: &mut Vec<Vec<Node>>,
-    held: Option<&LaneJob>,
-) -> Result<(), NoMemory>
-    ensures { IfOk result (λ _. lists jobs.new.items ≡ lists jobs.old.items ++ nodes_held (option_map (λ job. job.now) held.entry)) }
+fn add_held_job<'a>(jobs: &mut Vec<&'a [Node]>, held: Option<&'a LaneJob>) -> Result<(), NoMemory>
+    ensures { IfOk result (λ _. jobs_seen jobs.new.items ≡ jobs_seen jobs.old.items ++ nodes_held (option_map (λ job. job.now) held.entry)) }
 {
     if let Some(job) = held {
-        add_job(alloc, jobs, job)?;
+        add_job(jobs, job)?;
     }
     Ok(())
 }
 
 // Appends the jobs that are held.
-fn add_held(alloc: Global, jobs: &mut Vec<Vec<Node>>, board: &Board) -> Result<(), NoMemory>
-    ensures { IfOk result (λ _. lists jobs.new.items ≡ lists jobs.old.items ++ map (λ job. job.nodes) (flat_map held_jobs board.now.held)) }
+fn add_held<'a>(jobs: &mut Vec<&'a [Node]>, board: &'a Board) -> Result<(), NoMemory>
+    ensures { IfOk result (λ _. jobs_seen jobs.new.items ≡ jobs_seen jobs.old.items ++ map (λ job. job.nodes) (flat_map held_jobs board.now.held)) }
 {
     for worker in 0..board.opening().workers() {
-        add_held_job(alloc, jobs, board.held(worker))?;
+        add_held_job(jobs, board.held(worker))?;
     }
     Ok(())
 }

@@ -9,6 +9,7 @@
 //!   ([`Remaining`]).
 //! - [`write_checkpoint`], [`write_parts`]: the checkpoint of what a board leaves, and of found touches and jobs.
 //! - [`checkpoint_pieces`]: the checkpoint of touches in any order and jobs, sorted and written by several threads.
+//! - [`Job`]: what these read jobs from, which may have their nodes or refer to them.
 //! - [`read_checkpoint`]: the checkpoint that some bytes are ([`Checkpoint`]), or why they are none
 //!   ([`CheckFault`]).
 //! - [`put_block`], [`next_block`]: texts one after another in one file, each a block with its length ([`Next`]).
@@ -34,6 +35,7 @@ mod checkpoint;
 mod collecting;
 mod fault;
 mod items;
+mod job;
 pub mod laws;
 mod lines;
 mod outline;
@@ -50,4 +52,5 @@ pub use blocks::{Next, next_block, put_block};
 pub use checkpoint::{Checkpoint, read_checkpoint};
 pub use collecting::{Remaining, remaining_in_order, remaining_of};
 pub use fault::CheckFault;
+pub use job::Job;
 pub use writing::{checkpoint_pieces, write_checkpoint, write_parts};

@@ -3,8 +3,8 @@
 ghost use Rattle.std.specs.Prelude.{◌≡◌, ◌≤◌, [], ◌++◌, length, map, All, IfOk, decimal, codes, flat_map};
 ghost use Rattle.cr_model.specs.Callings.{HasSteps};
 ghost use Rattle.cr_model.specs.Checkpoints.{number_line, steps_text, steps_shared, node_line, node_lines, job_lines, last_node, nodes_of_jobs};
-ghost use Rattle.cr_store.specs.Written.{lists};
 
+use crate::job::Job;
 use cr_book::calling_text;
 use cr_model::Problem;
 use cr_node::Node;
@@ -83,24 +83,27 @@ pub fn write_node(
     Ok(())
 }
 
-/// Appends a job that comes after a node: its number of nodes, and their lines.
-pub fn write_job(
+/// Appends a job that comes after a node: its number of nodes, and their lines. What comes back is the last of its nodes,
+/// or the one before them where it has none.
+pub fn write_job<'a, J: Job>(
     alloc: Global,
     text: &mut Vec<u8>,
     problem: &Problem,
-    before: &[u8],
-    job: &[Node],
-) -> Result<(), NoMemory>
-    requires { All (HasSteps problem.now) job.now }
-    ensures { IfOk result (λ _. text.new.items ≡ text.old.items ++ number_line (codes "job") (length job.now) ++ node_lines problem.now 2 before.now job.now) }
+    before: &'a [u8],
+    job: &'a J,
+) -> Result<&'a [u8], NoMemory>
+    requires { All (HasSteps problem.now) (J.nodes job.now) }
+    ensures text { IfOk result (λ _. text.new.items ≡ text.old.items ++ number_line (codes "job") (length (J.nodes job.now)) ++ node_lines problem.now 2 before.now (J.nodes job.now)) }
+    ensures last { IfOk result (λ last. last.now ≡ last_node before.now (J.nodes job.now)) }
 {
-    write_count(text, b"job", job.len() as u64)?;
+    write_count(text, b"job", job.size() as u64)?;
     let mut last = before;
-    for node in job {
-        write_node(alloc, text, problem, last, node.steps())?;
-        last = node.steps();
+    for index in 0..job.size() {
+        let node = job.steps(index);
+        write_node(alloc, text, problem, last, node)?;
+        last = node;
     }
-    Ok(())
+    Ok(last)
 }
 
 /// The last of some nodes, or the one before them where there are none.
@@ -114,19 +117,18 @@ pub fn last_of<'a>(before: &'a [u8], job: &'a [Node]) -> &'a [u8]
 }
 
 /// Appends jobs, of which the first comes at the beginning.
-pub fn write_jobs(
+pub fn write_jobs<J: Job>(
     alloc: Global,
     text: &mut Vec<u8>,
     problem: &Problem,
-    jobs: &[Vec<Node>],
+    jobs: &[J],
 ) -> Result<(), NoMemory>
-    requires { All (HasSteps problem.now) (nodes_of_jobs (lists jobs.now)) }
-    ensures { IfOk result (λ _. text.new.items ≡ text.old.items ++ job_lines problem.now 2 [] (lists jobs.now)) }
+    requires { All (HasSteps problem.now) (nodes_of_jobs (map J.nodes jobs.now)) }
+    ensures { IfOk result (λ _. text.new.items ≡ text.old.items ++ job_lines problem.now 2 [] (map J.nodes jobs.now)) }
 {
     let mut last: &[u8] = &[];
     for job in jobs {
-        write_job(alloc, text, problem, last, job)?;
-        last = last_of(last, job);
+        last = write_job(alloc, text, problem, last, job)?;
     }
     Ok(())
 }

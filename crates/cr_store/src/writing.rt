@@ -6,31 +6,31 @@ ghost use Rattle.cr_model.specs.Callings.{HasSteps};
 ghost use Rattle.cr_model.specs.ProblemFiles.{ProblemFile};
 ghost use Rattle.cr_model.specs.Checkpoints.{CanGoOn, CheckFile, checkpoint_text, nodes_of_jobs};
 ghost use Rattle.cr_book.specs.Pieces.{pieces_joined};
-ghost use Rattle.cr_store.specs.Written.{lists, head_text, tail_text, IsWritten, IsTextOfLeft};
+ghost use Rattle.cr_store.specs.Written.{head_text, tail_text, IsWritten, IsTextOfLeft};
 
-use crate::collecting::copy_remaining_of;
+use crate::collecting::{found_in_order, jobs_of};
+use crate::job::Job;
 use crate::texts::{write_count, write_jobs};
 use cr_board::Board;
 use cr_book::{BookPieces, line_pieces, write_lines};
 use cr_model::{Calling, Problem};
-use cr_node::Node;
 use cr_row::NoMemory;
 use std::alloc::Global;
 use std::thread::Threads;
 
 /// The checkpoint, in version 2, of a problem's file, found touches and jobs from which a search can go on. Reading it
-/// gives the same again. Err where no memory is left.
-pub fn write_parts(
+/// gives the same again. The nodes are read where they lie. Err where no memory is left.
+pub fn write_parts<J: Job>(
     alloc: Global,
     problem: &Problem,
     problem_bytes: &[u8],
     found: &[Calling],
-    jobs: &[Vec<Node>],
+    jobs: &[J],
 ) -> Result<Vec<u8>, NoMemory>
     requires file { ProblemFile problem_bytes.now problem.now }
-    requires goes_on { CanGoOn problem.now found.now (lists jobs.now) }
-    ensures text { IfOk result (λ text. text.items ≡ checkpoint_text problem.now problem_bytes.now found.now (lists jobs.now)) }
-    ensures file { IfOk result (λ text. CheckFile text.items problem_bytes.now problem.now found.now (lists jobs.now)) }
+    requires goes_on { CanGoOn problem.now found.now (map J.nodes jobs.now) }
+    ensures text { IfOk result (λ text. text.items ≡ checkpoint_text problem.now problem_bytes.now found.now (map J.nodes jobs.now)) }
+    ensures file { IfOk result (λ text. CheckFile text.items problem_bytes.now problem.now found.now (map J.nodes jobs.now)) }
 {
     let mut text = head_of(alloc, problem_bytes, found.len() as u64)?;
     write_lines(&mut text, problem, found)?;
@@ -41,7 +41,7 @@ pub fn write_parts(
 /// The checkpoint, in version 2, of a problem's file, of found touches in any order, which it has in the book's, and of
 /// jobs: in pieces that follow one another, and with them the touches, again in any order. The touches' lines are put in
 /// order and written as `line_pieces` of cr_book does, by at most so many threads. Err where no memory is left.
-pub fn checkpoint_pieces<R: Threads + Sync>(
+pub fn checkpoint_pieces<R: Threads + Sync, J: Job>(
     rt: &R,
     alloc: Global,
     threads: usize,
@@ -49,11 +49,11 @@ pub fn checkpoint_pieces<R: Threads + Sync>(
     problem_bytes: &[u8],
     found: Vec<Calling>,
     handed: &[u64],
-    jobs: &[Vec<Node>],
+    jobs: &[J],
 ) -> Result<BookPieces, NoMemory>
     requires touches { All (HasSteps problem.now) found.items }
-    requires nodes { All (HasSteps problem.now) (nodes_of_jobs (lists jobs.now)) }
-    ensures text { IfOk result (λ made. IsTextOfLeft problem.now problem_bytes.now found.items (lists jobs.now) (pieces_joined made.pieces.items)) }
+    requires nodes { All (HasSteps problem.now) (nodes_of_jobs (map J.nodes jobs.now)) }
+    ensures text { IfOk result (λ made. IsTextOfLeft problem.now problem_bytes.now found.items (map J.nodes jobs.now) (pieces_joined made.pieces.items)) }
     ensures spent { IfOk result (λ made. IsPermutation found.items made.spent.items) }
 {
     let head = head_of(alloc, problem_bytes, found.len() as u64)?;
@@ -94,14 +94,14 @@ fn head_of(alloc: Global, problem_bytes: &[u8], touches: u64) -> Result<Vec<u8>,
 }
 
 // Appends what stands behind the lines of found touches.
-fn write_tail(
+fn write_tail<J: Job>(
     alloc: Global,
     text: &mut Vec<u8>,
     problem: &Problem,
-    jobs: &[Vec<Node>],
+    jobs: &[J],
 ) -> Result<(), NoMemory>
-    requires { All (HasSteps problem.now) (nodes_of_jobs (lists jobs.now)) }
-    ensures { IfOk result (λ _. text.new.items ≡ text.old.items ++ tail_text problem.now (lists jobs.now)) }
+    requires { All (HasSteps problem.now) (nodes_of_jobs (map J.nodes jobs.now)) }
+    ensures { IfOk result (λ _. text.new.items ≡ text.old.items ++ tail_text problem.now (map J.nodes jobs.now)) }
 {
     write_count(text, b"jobs", jobs.len() as u64)?;
     write_jobs(alloc, text, problem, jobs)?;
@@ -110,7 +110,8 @@ fn write_tail(
 }
 
 /// The checkpoint, in version 2, of what a board leaves: what it found, in the book's order, the jobs of its lanes, in
-/// the order of the workers, and then those that are held. Err where no memory is left.
+/// the order of the workers, and then those that are held. The touches are copied, to put them in order, and the nodes are
+/// not. Err where no memory is left.
 pub fn write_checkpoint(
     alloc: Global,
     problem_bytes: &[u8],
@@ -119,12 +120,13 @@ pub fn write_checkpoint(
     requires { ProblemFile problem_bytes.now board.now.opening.problem }
     ensures { IfOk result (λ text. IsWritten problem_bytes.now board.now text.items) }
 {
-    let left = copy_remaining_of(alloc, board)?;
+    let found = found_in_order(alloc, board)?;
+    let jobs = jobs_of(alloc, board)?;
     write_parts(
         alloc,
         board.opening().problem(),
         problem_bytes,
-        &left.found,
-        &left.jobs,
+        &found,
+        &jobs,
     )
 }

@@ -1,9 +1,9 @@
 use Rattle.std.proofs.Common.{◌≡◌, ◌++◌, map, drop}
 use Rattle.std.specs.Prelude.{flat_map}
-use Rattle.cr_store.specs.Written.{lists}
+use Rattle.cr_store.specs.Written.{jobs_seen}
 use Rattle.cr_store.proofs.collecting.add_lanes.Given as goal
 
 abbrev pub invariant-loop-worker : goal.invariant-loop-worker
 invariant-loop-worker l =
-    lists l.jobs.items ++ map (λ job. job.nodes) (flat_map (λ lane. lane) (drop l.worker l.board.lanes))
-    ≡ lists l.initial.jobs.items ++ map (λ job. job.nodes) (flat_map (λ lane. lane) l.board.lanes)
+    jobs_seen l.jobs.items ++ map (λ job. job.nodes) (flat_map (λ lane. lane) (drop l.worker l.board.lanes))
+    ≡ jobs_seen l.initial.jobs.items ++ map (λ job. job.nodes) (flat_map (λ lane. lane) l.board.lanes)

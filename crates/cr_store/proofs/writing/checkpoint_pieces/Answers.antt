@@ -1,6 +1,6 @@
-use Rattle.std.proofs.Common.{◌≡◌, ◌++◌, length, ap, ap₂, ◌∙◌, arith}
+use Rattle.std.proofs.Common.{◌≡◌, ◌++◌, length, map, ap, ap₂, ◌∙◌, arith}
 use Rattle.cr_book.specs.Pieces.{pieces_joined}
-use Rattle.cr_store.specs.Written.{lists, head_text, tail_text}
+use Rattle.cr_store.specs.Written.{head_text, tail_text}
 use Rattle.cr_store.proofs.Pieces.{is_checkpoint}
 use Rattle.cr_store.proofs.writing.checkpoint_pieces.Goals as goal
 
@@ -8,7 +8,7 @@ pub returns-clause-text : goal.returns-clause-text
 returns-clause-text g c =
     let p = c.args.problem.now in
     let bytes = c.args.problem_bytes.now in
-    let jobs = lists c.args.jobs.now in
+    let jobs = map g.J.Job.nodes c.args.jobs.now in
     let lines = pieces_joined c.in_ok-pieces.field-0.pieces.items in
     let many : c.len.result ≡ length c.args.found.items = omega (arith, c.len.ensures) in
     let head : c.in_ok-head.head.items ≡ head_text bytes (length c.args.found.items) = c.in_ok-head.ensures ∙ ap (head_text bytes) many in
