@@ -8,6 +8,7 @@ pub mod Spreading
 pub mod Overlapping
 pub mod Earliest
 pub mod JoinedFacts
+pub mod Emptied
 pub mod JoinChecks
 pub mod RoundTrip
 pub mod OneJoin

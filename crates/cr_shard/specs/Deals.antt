@@ -1,6 +1,7 @@
 -- Shards: what is found and left of one search, dealt to many checkpoints.
 use Rattle.std.specs.Prelude.{◌≡◌, ℕ, ◌+◌, ◌%◌, ◌<◌, cond, nat_eq, List, [], ◌∷◌, ◌++◌, length, get_or, map}
 use Rattle.std.specs.List.{range_with_len}
+use Rattle.std.specs.Global.{Vec}
 use denote.Ref.{Bor}
 use Rattle.cr_model.specs.Problems.{ProblemParts}
 use Rattle.cr_model.specs.Checkpoints.{checkpoint_text, nodes_of_jobs}
@@ -47,3 +48,7 @@ first_shards p bytes found jobs into many = map (shard_text p bytes found jobs i
 -- nodes that are seen through references
 abbrev pub nodes_seen : List (Bor (List ℕ)) → List (List ℕ)
 nodes_seen nodes = map (λ node. node.now) nodes
+
+-- jobs of such nodes
+abbrev pub jobs_seen : List (Vec (Bor (List ℕ))) → List (List (List ℕ))
+jobs_seen jobs = map (λ job. nodes_seen job.items) jobs

@@ -6,6 +6,7 @@ use denote.Ref.{Bor}
 use Rattle.cr_model.specs.Problems.{ProblemParts}
 use Rattle.cr_model.specs.Nodes.{is_prefix}
 use Rattle.cr_model.specs.Checkpoints.{CanGoOn}
+use Rattle.cr_model.specs.ProblemFiles.{ProblemFile}
 use Rattle.cr_node.specs.Overlaps.{Item, of_found, of_node, items, item_at}
 use Rattle.cr_store.specs.declared.fault.CheckFault.{CheckFault}
 use Rattle.cr_store.specs.Blocks.{blocks, IsBody}
@@ -105,6 +106,19 @@ pub record IsJoinOf (shards : List Progress) (text : List ℕ) : Type 0 where
   pub p : ProblemParts
   pub joined_is : IsJoinedOf shards bytes p text
   pub apart : NoneOverlap p shards
+
+-- the shards are of one problem, and no two of them overlap
+pub record CanJoin (shards : List Progress) : Type 0 where
+  pub bytes : List ℕ
+  pub p : ProblemParts
+  pub file : ProblemFile bytes p
+  pub of_one : AreOfOne bytes p shards
+  pub can_meet : CanMeet p shards
+  pub apart : NoneOverlap p shards
+
+-- a shard without what it found
+abbrev pub without_found : Progress → Progress
+without_found c = record { bytes = c.bytes; problem = c.problem; found = []; jobs = c.jobs }
 
 -- shards can't be joined for this cause
 abbrev pub IsUnjoinable : List Progress → JoinFault → Type 0

@@ -4,7 +4,7 @@ ghost use Rattle.std.specs.Prelude.{◌≡◌, ◌+◌, ◌%◌, ◌<◌, ◌≤
 ghost use Rattle.cr_model.specs.ProblemFiles.{ProblemFile};
 ghost use Rattle.cr_model.specs.Checkpoints.{CanGoOn, checkpoint_text, nodes_of_jobs};
 ghost use Rattle.cr_store.specs.Written.{lists};
-ghost use Rattle.cr_shard.specs.Deals.{dealt_found, dealt_nodes, as_jobs, shard_text, nodes_seen, IsCut};
+ghost use Rattle.cr_shard.specs.Deals.{dealt_found, dealt_nodes, as_jobs, shard_text, nodes_seen, jobs_seen, IsCut};
 
 use cr_model::{Calling, Problem};
 use cr_node::Node;
@@ -39,7 +39,7 @@ pub fn cut_blocks(
     Ok(text)
 }
 
-// The checkpoint of a shard. Its nodes are copied, and let go before its block needs memory.
+// The checkpoint of a shard. Its nodes stay where they are, and the list of them is let go before its block needs memory.
 fn shard_of(
     alloc: Global,
     problem: &Problem,
@@ -55,9 +55,9 @@ fn shard_of(
     ensures { IfOk result (λ body. body.items ≡ checkpoint_text problem.now problem_bytes.now (dealt_found shard found.now) (as_jobs (dealt_nodes into shard (nodes_seen nodes.now)))) }
 {
     let touches = touches_of(found, shard);
-    let job = nodes_of(alloc, nodes, into, shard)?;
-    let job = one_job(alloc, job)?;
-    let body = write_parts(alloc, problem, problem_bytes, touches, &job)?;
+    let dealt = nodes_of(alloc, nodes, into, shard)?;
+    let jobs = one_job(alloc, dealt)?;
+    let body = write_parts(alloc, problem, problem_bytes, touches, &jobs)?;
     Ok(body)
 }
 
@@ -99,22 +99,27 @@ fn touches_of(found: &[Calling], shard: u32) -> &[Calling]
 }
 
 // The nodes of a shard.
-fn nodes_of(alloc: Global, nodes: &[&Node], into: u32, shard: u32) -> Result<Vec<Node>, NoMemory>
+fn nodes_of<'a>(
+    alloc: Global,
+    nodes: &[&'a Node],
+    into: u32,
+    shard: u32,
+) -> Result<Vec<&'a Node>, NoMemory>
     requires { shard < into }
-    ensures { IfOk result (λ dealt. dealt.items ≡ dealt_nodes into shard (nodes_seen nodes.now)) }
+    ensures { IfOk result (λ dealt. nodes_seen dealt.items ≡ dealt_nodes into shard (nodes_seen nodes.now)) }
 {
     let mut dealt = Vec::with_capacity(alloc, nodes.len() / into as usize + 1)?;
     let mut place = shard as usize;
     while place < nodes.len() {
-        dealt.push(nodes[place].copy(alloc)?)?;
+        dealt.push(nodes[place])?;
         place += into as usize;
     }
     Ok(dealt)
 }
 
 // Nodes as one job, or as no job where there are none.
-fn one_job(alloc: Global, nodes: Vec<Node>) -> Result<Vec<Vec<Node>>, NoMemory>
-    ensures { IfOk result (λ jobs. lists jobs.items ≡ as_jobs nodes.items) }
+fn one_job<'a>(alloc: Global, nodes: Vec<&'a Node>) -> Result<Vec<Vec<&'a Node>>, NoMemory>
+    ensures { IfOk result (λ jobs. jobs_seen jobs.items ≡ as_jobs (nodes_seen nodes.entry.items)) }
 {
     let mut jobs = Vec::new(alloc);
     if !nodes.is_empty() {

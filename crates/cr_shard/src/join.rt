@@ -5,14 +5,14 @@ ghost use Rattle.cr_shard.specs.declared.fault.JoinFault.{JoinFault};
 ghost use Rattle.cr_shard.specs.declared.fault.JoinFault.TheVariants as fault;
 ghost use Rattle.cr_shard.specs.Joins.{AreOfOne, NoneOverlap};
 ghost use Rattle.cr_shard.specs.JoinFaults.{AreOneFile, HasShards, IsJoin, FirstJoinFault, bytes_at};
-ghost use Rattle.cr_shard.specs.Reads.{CanMeet, IsHeld, IsJoinOf, IsUnjoinable, OrNoMemory};
+ghost use Rattle.cr_shard.specs.Reads.{CanJoin, CanMeet, IsHeld, IsJoinOf, IsUnjoinable, OrNoMemory};
 
 use crate::bodies::{bodies_of, read_bodies};
 use crate::fault::JoinFault;
 use crate::joining::join_shards;
 use crate::laws::texts_have_one_answer;
 use crate::overlap::first_overlap;
-use crate::problems::{file_of, other_problem};
+use crate::problems::{other_problem, problem_of};
 use cr_model::Problem;
 use cr_read::bytes_have_one_answer;
 use cr_store::Checkpoint;
@@ -41,8 +41,8 @@ pub fn join_blocks(alloc: Global, text: &[u8]) -> Result<Vec<u8>, JoinFault>
 fn join_whole(alloc: Global, text: &[u8]) -> Result<Vec<u8>, JoinFault>
     ensures { MatchResult result (λ joined. IsJoin text.now joined.items) (OrNoMemory (FirstJoinFault text.now)) }
 {
-    let shards = shards_of(alloc, text)?;
-    match join_read(alloc, &shards) {
+    let mut shards = shards_of(alloc, text)?;
+    match join_read(alloc, &mut shards) {
         Ok(joined) => Ok(joined),
         Err(why) => Err(why),
     }
@@ -59,26 +59,29 @@ fn shards_of(alloc: Global, text: &[u8]) -> Result<Vec<Checkpoint>, JoinFault>
     }
 }
 
-// Shards that were read, as one checkpoint.
-fn join_read(alloc: Global, shards: &[Checkpoint]) -> Result<Vec<u8>, JoinFault>
+// Shards that were read, as one checkpoint. What they found is moved out of them.
+fn join_read(alloc: Global, shards: &mut [Checkpoint]) -> Result<Vec<u8>, JoinFault>
+    requires some { 0 < length shards.old }
+    requires held { All IsHeld shards.old }
+    ensures { MatchResult result (λ joined. IsJoinOf shards.old joined.items) (OrNoMemory (IsUnjoinable shards.old)) }
+{
+    check_shards(alloc, shards)?;
+    let joined = join_shards(alloc, shards)?;
+    Ok(joined)
+}
+
+// Whether shards that were read are of one problem, and no two of them overlap.
+fn check_shards(alloc: Global, shards: &[Checkpoint]) -> Result<(), JoinFault>
     requires some { 0 < length shards.now }
     requires held { All IsHeld shards.now }
-    ensures { MatchResult result (λ joined. IsJoinOf shards.now joined.items) (OrNoMemory (IsUnjoinable shards.now)) }
+    ensures { MatchResult result (λ _. CanJoin shards.now) (OrNoMemory (IsUnjoinable shards.now)) }
 {
     // By this law equal bytes are the file of one problem.
     bytes_have_one_answer();
     check_problems(shards)?;
     let first = &shards[0];
     check_overlaps(alloc, problem_of(first), shards)?;
-    let joined = join_shards(alloc, problem_of(first), file_of(first), shards)?;
-    Ok(joined)
-}
-
-// The problem of a shard.
-fn problem_of(shard: &Checkpoint) -> &Problem
-    ensures { result.now ≡ shard.now.problem }
-{
-    &shard.problem
+    Ok(())
 }
 
 // Whether all shards have the problem's bytes of the first.

@@ -3,6 +3,7 @@
 ghost use Rattle.std.specs.Prelude.{◌≡◌, ◌<◌, ◌≤◌, length, get_or, IfSome, IfNone};
 ghost use Rattle.cr_shard.specs.JoinFaults.{DifferFirstAt, IsOtherProblem, AreOneFile, bytes_at};
 
+use cr_model::Problem;
 use cr_store::Checkpoint;
 
 /// The first shard whose problem's bytes are not those of the first one, and the first byte at which they differ, or
@@ -24,6 +25,13 @@ pub fn file_of(shard: &Checkpoint) -> &[u8]
     ensures { result.now ≡ shard.now.bytes }
 {
     &shard.problem_bytes
+}
+
+/// The problem of a shard.
+pub fn problem_of(shard: &Checkpoint) -> &Problem
+    ensures { result.now ≡ shard.now.problem }
+{
+    &shard.problem
 }
 
 // The first place where both differ, or the length of the shorter one. None where they are the same.

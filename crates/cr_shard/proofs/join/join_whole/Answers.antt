@@ -7,4 +7,4 @@ use Rattle.cr_shard.proofs.join.join_whole.Goals as goal
 
 pub join_read-requires-clause-held : goal.join_read-requires-clause-held
 join_read-requires-clause-held c =
-    subst (λ (shards : List Progress). All IsHeld shards) (sym c.deref.ensures.value) (text_held c.args.text.now c.in_ok-shards.shards.items c.in_ok-shards.ensures)
+    subst (λ (shards : List Progress). All IsHeld shards) (sym c.deref_mut.ensures.value) (text_held c.args.text.now c.in_ok-shards.shards.items c.in_ok-shards.ensures)
