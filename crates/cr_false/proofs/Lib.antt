@@ -4,3 +4,6 @@ pub mod Tables
 pub mod Shared
 pub mod Numbers
 pub mod Room
+pub mod Parity
+pub mod Between
+pub mod SomeRows

@@ -22,7 +22,7 @@ pub record Laws : Type 0 where
   pub left : (r : List ℕ) → IsRow r → product (rounds (length r)) r ≡ r
 
 -- changes rung from a row make rows
-rung_are_rows : Laws → (stage : ℕ) (row : List ℕ) (changes : List Places) → IsRow row → length row ≡ stage → AreRows stage (rows_from row changes)
+pub rung_are_rows : Laws → (stage : ℕ) (row : List ℕ) (changes : List Places) → IsRow row → length row ≡ stage → AreRows stage (rows_from row changes)
 rung_are_rows laws stage row [] is long = All-nil (λ row. IsRow row × (length row ≡ stage))
 rung_are_rows laws stage row (change ∷ changes) is long =
     let next : length (after change row) ≡ stage = laws.after_long change row ∙ long in
@@ -83,7 +83,7 @@ module _ (laws : Laws) (stage : ℕ) (h k inverse : List ℕ) (rows others : Lis
   )
 
 -- the rows of a step of a problem's lead table
-step_rows : (p : ProblemParts) (step : ℕ) → step < length p.leads → lead_rows (lead_table p) step ≡ rows_from (rounds p.stage) (changes_of p step)
+pub step_rows : (p : ProblemParts) (step : ℕ) → step < length p.leads → lead_rows (lead_table p) step ≡ rows_from (rounds p.stage) (changes_of p step)
 step_rows p step within =
     rows_of_step (lead_table p) p step refl (subst (λ n. step < n) (sym (leads_counted (lead_table p) p refl)) within)
     ∙ ap (rows_from (rounds p.stage)) (append-nil (changes_of p step))

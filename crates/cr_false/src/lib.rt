@@ -7,16 +7,24 @@
 //!   than a limit ([`Built`]).
 //! - [`FalseTable::clash`]: whether two leads share a row, by the row between their heads. It takes no memory.
 //! - [`FalseTable::self_false`]: whether a lead has a row twice.
+//! - [`TellingRows::new`]: few rows of each lead by which two leads are told apart, from whatever heads of callings they
+//!   are rung. [`TellingRows::all`]: all rows.
 //!
-//! The functions of [`laws`] do nothing; the contract of each is what is proved of quotients.
+//! The functions of [`laws`] do nothing; the contract of each is what is proved of quotients and of
+//! telling rows.
 #![tactic(auto)]
 
 mod built;
+mod common;
 pub mod laws;
+mod proposed;
 mod sets;
 mod step_pairs;
 mod table;
+mod telling;
+mod told_apart;
 mod twice;
 
 pub use built::Built;
 pub use table::FalseTable;
+pub use telling::TellingRows;

@@ -28,6 +28,18 @@ pub fn set_of(
     false_rows(alloc, rows, others, room)
 }
 
+/// The rows that are false of some rows and others, each once. Err where no memory is left.
+pub fn set_between(alloc: Global, rows: &[Row], others: &[Row]) -> Result<RowStack, NoMemory>
+    requires alike { AreAlike rows.now others.now }
+    requires rows { length rows.now ≤ 128 }
+    requires others { length others.now ≤ 128 }
+    ensures { IfOk result (λ set. IsSetOf (IsFalse rows.now others.now) set.rows) }
+{
+    rows_cancel();
+    let most = pairs_of(rows, others);
+    false_rows(alloc, rows, others, most)
+}
+
 /// How many pairs of rows a pair of steps has: that is room enough for its false rows.
 pub fn most_of(leads: &LeadTable, pair: usize) -> u64
     ensures room { IsRoomFor (IsFalsePair leads.now pair) result }

@@ -89,8 +89,8 @@ impl FalseTable {
     }
 }
 
-// Whether a row is one of the set.
-fn has(set: &RowStack, row: &Row) -> bool
+/// Whether a row is one of the set.
+pub fn has(set: &RowStack, row: &Row) -> bool
     ensures { IsTrue result ↔ Contains set.now.rows row.now }
 {
     set.place_of(row).is_some()

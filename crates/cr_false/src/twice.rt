@@ -21,8 +21,8 @@ pub fn leads_with_twice(alloc: Global, leads: &LeadTable) -> Result<Vec<bool>, N
     Ok(twice)
 }
 
-// Whether a row stands twice among these.
-fn has_twice(alloc: Global, rows: &[Row]) -> Result<bool, NoMemory>
+/// Whether a row stands twice among these.
+pub fn has_twice(alloc: Global, rows: &[Row]) -> Result<bool, NoMemory>
     ensures { IfOk result (λ twice. IsTrue twice ↔ HasTwice rows.now) }
 {
     rows_stay_different();

@@ -7,3 +7,5 @@ mod false_tests;
 mod leads_tests;
 #[cfg(test)]
 mod reach_tests;
+#[cfg(test)]
+mod telling_tests;
