@@ -66,19 +66,21 @@ class Books(InFolder):
 
 
 class Killed(InFolder):
-    def seen(self):
-        """What stands in the folder of the search."""
-        return sorted((str(file), file.stat().st_mtime_ns) for file in self.into.rglob("*.txt") if file.exists())
+    def seen(self, pattern="**/*.txt"):
+        """Files of the search's folder, each with its size and time; from the start again where one goes meanwhile."""
+        while True:
+            with contextlib.suppress(FileNotFoundError):
+                told = [(str(file), file.stat()) for file in self.into.glob(pattern)]
+                return sorted((name, one.st_size, one.st_mtime_ns) for name, one in told)
 
     def changes(self, number):
         """A question that is answered yes once the folder has changed so many times."""
         state = [self.seen(), number]
 
         def is_ready():
-            with contextlib.suppress(FileNotFoundError):
-                now = self.seen()
-                if now != state[0]:
-                    state[:] = now, state[1] - 1
+            now = self.seen()
+            if now != state[0]:
+                state[:] = now, state[1] - 1
             return state[1] <= 0
 
         return is_ready
@@ -113,8 +115,7 @@ class Killed(InFolder):
             begun = time.time_ns()
 
             def is_torn():
-                told = [file.stat() for file in self.into.glob("trails/*.txt")]
-                return any(one.st_size == size and one.st_mtime_ns > begun for one in told)
+                return any(told == size and changed > begun for _, told, changed in self.seen("trails/*.txt"))
 
             self.kill_when(self.begin(*words, program=program), is_torn, SIGNALS[number % 3])
         self.assertTrue(list(self.into.glob("trails/*.txt")))

@@ -38,7 +38,7 @@ pub int_lt_decided : (a b : ℤ) → Decides (int_lt a b) (a <ℤ b)
 int_lt_decided a b = (λ h. lt_z_yes (T_from_true (int_lt a b) h), λ h. true_from_test (int_lt a b) h.lt)
 
 -- the end of a part
-round_decided : (p : ProblemParts) (row : List ℕ) (number : ℕ) → Decides (is_round_after p row number) (power p.stage row number ≡ rounds p.stage)
+pub round_decided : (p : ProblemParts) (row : List ℕ) (number : ℕ) → Decides (is_round_after p row number) (power p.stage row number ≡ rounds p.stage)
 round_decided p row number = bytes_eq-Decides (power p.stage row number) (rounds p.stage)
 
 pub end_decided : (p : ProblemParts) (row : List ℕ) → Decides (is_part_end p row) (IsPartEnd p row)
@@ -125,7 +125,7 @@ item_decided p node item sound =
     (each_decided p node (λ way. int_lt item.max (pos (number_with p node item way))) (λ way. item.max <ℤ pos (number_with p node item way)) sound (λ way. int_lt_decided item.max (pos (number_with p node item way))))
     (each_decided p node (λ way. int_lt (pos (number_with p node item way)) item.min) (λ way. pos (number_with p node item way) <ℤ item.min) sound (λ way. int_lt_decided (pos (number_with p node item way)) item.min))
 
-any_decided : {X : Type 0} (test : X → Bool) (P : X → Type 0) → ((x : X) → Decides (test x) (P x)) → (xs : List X) → Decides (list_any test xs) (Any P xs)
+pub any_decided : {X : Type 0} (test : X → Bool) (P : X → Type 0) → ((x : X) → Decides (test x) (P x)) → (xs : List X) → Decides (list_any test xs) (Any P xs)
 any_decided test P each [] = (λ h. absurd (false≢true h), λ any. let none : any.0 < 0 = any.2 in absurd (omega arith))
 any_decided {X} test P each (x ∷ xs) = by (any_decided test P each xs)
   where
@@ -142,7 +142,7 @@ any_decided {X} test P each (x ∷ xs) = by (any_decided test P each xs)
     by : Decides (list_any test xs) (Any P xs) → Decides (list_any test (x ∷ xs)) (Any P (x ∷ xs))
     by rest = (there rest, λ any. back rest any.0 any.1 any.2 any.3 any.4)
 
-none_decided : Decides false ⊥
+pub none_decided : Decides false ⊥
 none_decided = (λ h. absurd (false≢true h), λ x. absurd x)
 
 pub come_decided : (p : ProblemParts) (node : List ℕ) → IsSound p → Decides (cannot_come p node) (CannotCome p node)

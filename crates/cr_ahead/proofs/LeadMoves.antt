@@ -203,16 +203,17 @@ module _ (p : ProblemParts) (heads : List (List ℕ)) (m : MovesParts) (place : 
   )
 
   -- leads that are counted, in all parts
+  pub counted_adds : (test : ℕ → Bool) → HaveGains p heads m (λ place step. cond (test step) 1 0) → (way : List ℕ) → HasSteps p way
+      → count_by test (touch_with p node way) ≡ parts_of p * (count_by test node + gain_of m place way)
+  counted_adds test have way steps =
+      words_counted test 0 (parts_of p) (node ++ way)
+      ∙ ap (λ (n : ℕ). parts_of p * n)
+      (sum_by-append (λ s. cond (test s) 1 0) node way ∙ ap (λ (n : ℕ). count_by test node + n) (sym (counted_gain p heads m moves test have place way at.there steps)))
+
   pub tells_counted : (test : ℕ → Bool) (gains : Option Gains) → HaveGains p heads m (λ place step. cond (test step) 1 0)
       → IsAnswer m (part_least p) (part_cap p) place (length_of p node) gains
       → Tells (IsWayHome p node) (λ way. count_by test (touch_with p node way)) (of_touches (parts_of p) (count_by test node) gains)
-  tells_counted test gains have answer = tells_touches (λ way. count_by test (touch_with p node way)) (parts_of p) (count_by test node) each gains answer
-    where
-      each : (way : List ℕ) → HasSteps p way → count_by test (touch_with p node way) ≡ parts_of p * (count_by test node + gain_of m place way)
-      each way steps =
-          words_counted test 0 (parts_of p) (node ++ way)
-          ∙ ap (λ (n : ℕ). parts_of p * n)
-          (sum_by-append (λ s. cond (test s) 1 0) node way ∙ ap (λ (n : ℕ). count_by test node + n) (sym (counted_gain p heads m moves test have place way at.there steps)))
+  tells_counted test gains have answer = tells_touches (λ way. count_by test (touch_with p node way)) (parts_of p) (count_by test node) (counted_adds test have) gains answer
 
   -- changes of method in all parts
   pub changes_in_parts : (methods : List (Option ℕ)) → HaveMethods p heads m methods → get_or methods place None ≡ last_method p node
@@ -239,17 +240,19 @@ module _ (p : ProblemParts) (heads : List (List ℕ)) (m : MovesParts) (place : 
     the_part : (way : List ℕ) → touch_with p node way ≡ node ++ way
     the_part way = ap (λ (n : ℕ). repeated n (node ++ way)) one ∙ append-nil (node ++ way)
 
+    pub fitting_adds : (cells : List Cell) → HaveGains p heads m (λ place step. fitting_gain p cells (get_or heads place []) step) → (way : List ℕ) → HasSteps p way
+        → rows_fitting cells (rows_of p (touch_with p node way)) ≡ 1 * (rows_fitting cells (rows_of p node) + gain_of m place way)
+    fitting_adds cells have way steps =
+        let all : rows_fitting cells (rows_of p (touch_with p node way)) ≡ rows_fitting cells (rows_of p node) + rows_fitting cells (rows_from (head_of p node) (changes_of_all p way)) =
+        ap (λ (c : List ℕ). rows_fitting cells (rows_of p c)) (the_part way) ∙ ap (rows_fitting cells) (rows_on p node way)
+        ∙ sum_by-append (λ r. cond (fits cells r) 1 0) (rows_of p node) (rows_from (head_of p node) (changes_of_all p way)) in
+        omega (arith, all, fitting_gains p heads m moves cells have place (head_of p node) way at.there at.head steps)
+
     pub tells_fitting : (cells : List Cell) (gains : Option Gains) → HaveGains p heads m (λ place step. fitting_gain p cells (get_or heads place []) step)
         → IsAnswer m (part_least p) (part_cap p) place (length_of p node) gains
         → Tells (IsWayHome p node) (λ way. rows_fitting cells (rows_of p (touch_with p node way))) (of_touches 1 (rows_fitting cells (rows_of p node)) gains)
-    tells_fitting cells gains have answer = tells_touches (λ way. rows_fitting cells (rows_of p (touch_with p node way))) 1 (rows_fitting cells (rows_of p node)) each gains answer
-      where
-        each : (way : List ℕ) → HasSteps p way → rows_fitting cells (rows_of p (touch_with p node way)) ≡ 1 * (rows_fitting cells (rows_of p node) + gain_of m place way)
-        each way steps =
-            let all : rows_fitting cells (rows_of p (touch_with p node way)) ≡ rows_fitting cells (rows_of p node) + rows_fitting cells (rows_from (head_of p node) (changes_of_all p way)) =
-            ap (λ (c : List ℕ). rows_fitting cells (rows_of p c)) (the_part way) ∙ ap (rows_fitting cells) (rows_on p node way)
-            ∙ sum_by-append (λ r. cond (fits cells r) 1 0) (rows_of p node) (rows_from (head_of p node) (changes_of_all p way)) in
-            omega (arith, all, fitting_gains p heads m moves cells have place (head_of p node) way at.there at.head steps)
+    tells_fitting cells gains have answer =
+        tells_touches (λ way. rows_fitting cells (rows_of p (touch_with p node way))) 1 (rows_fitting cells (rows_of p node)) (fitting_adds cells have) gains answer
 
     pub tells_changing : (methods : List (Option ℕ)) (gains : Option Gains) → HaveMethods p heads m methods → get_or methods place None ≡ last_method p node
         → HaveGains p heads m (λ place step. changing_gain p (get_or methods place None) step)

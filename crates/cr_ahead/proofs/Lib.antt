@@ -8,3 +8,9 @@ pub mod Home
 pub mod Items
 pub mod Kept
 pub mod LeadMoves
+pub mod Exact
+pub mod PartEnds
+pub mod InUnits
+pub mod ItemTables
+pub mod HeadMoves
+pub mod Outlooks

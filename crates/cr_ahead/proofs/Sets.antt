@@ -123,3 +123,12 @@ tells_one Holds number_of (Some g) (Some h) is other =
     let low : g.least ≡ h.least = least_is_one Holds number_of g.least h.least is.0 other.0 in
     let high : g.greatest ≡ h.greatest = greatest_is_one Holds number_of g.greatest h.greatest is.1 other.1 in
     λ i. Some (record { least = low i; greatest = high i })
+
+-- the same numbers by another function
+pub tells_alike : (Holds : List ℕ → Type 0) (one other : List ℕ → ℕ) → ((x : List ℕ) → one x ≡ other x) → (gains : Option Gains)
+    → Tells Holds one gains → Tells Holds other gains
+tells_alike Holds one other same None none = none
+tells_alike Holds one other same (Some g) is = (
+  record { one = is.0.one; holds = is.0.holds; is = omega (arith, same is.0.one, is.0.is); no_less = λ x h. omega (arith, same x, is.0.no_less x h) },
+  record { one = is.1.one; holds = is.1.holds; is = omega (arith, same is.1.one, is.1.is); no_more = λ x h. omega (arith, same x, is.1.no_more x h) },
+)

@@ -8,3 +8,7 @@ pub mod Home
 pub mod Items
 pub mod LeadMoves
 pub mod Examples
+pub mod Exact
+pub mod Units
+pub mod Gaining
+pub mod Outlooks

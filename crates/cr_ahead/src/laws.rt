@@ -5,6 +5,7 @@ ghost use Rattle.cr_ahead.specs.declared.gains.Gains.{Gains};
 ghost use Rattle.cr_ahead.specs.Moves.{MovesParts, steps_of};
 ghost use Rattle.cr_ahead.specs.Ways.{place_after, length_of, gain_of, IsWay, HasNoWay, IsLeastGain, IsGreatestGain, IsAnswer};
 
+pub mod exact;
 pub mod examples;
 pub mod home;
 pub mod home_examples;

@@ -10,6 +10,11 @@
 //! - [`Ahead::at`]: for a place and the length of a part there, the least and the greatest gain of all ways
 //!   ([`Gains`]), or that there is none. It takes constant time and no memory.
 //!
+//! - [`Outlook::new`]: the tables of a problem, from its lead heads: one for each count, and in one part one for each
+//!   pattern. Lengths are in units of so many changes as each lead has a multiple of.
+//! - [`Outlook::cannot_come`]: whether a node has no way home, or none that meets the min, or none that meets the max, of
+//!   one of these items. It takes no memory.
+//!
 //! The functions of [`laws`] do nothing: the contract of each is what is proved of ways, and of the ways home of a
 //! problem, on which a node of a search that cannot come to what is asked has no kept touch below it.
 //!
@@ -27,14 +32,23 @@
 #![tactic(auto)]
 
 mod ahead;
+mod ends;
 mod gains;
+mod item_gains;
+mod item_tables;
 pub mod laws;
+mod lead_moves;
 mod moves;
+mod outlook;
+mod problem_steps;
+mod refusing;
 mod rows;
+mod units;
 
 pub use ahead::Ahead;
 pub use gains::Gains;
 pub use moves::Moves;
+pub use outlook::Outlook;
 
 #[cfg(test)]
 mod tests;

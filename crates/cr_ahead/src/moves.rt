@@ -51,6 +51,14 @@ impl Moves {
         })
     }
 
+    // Replaces what the steps gain.
+    pub(crate) fn set_gains(&mut self, gains: Vec<u16>)
+        requires { length gains.items ≡ places_of self.old * steps_of self.old }
+        ensures { self.new ≡ record self.old { gains = gains.items } }
+    {
+        self.gains = gains;
+    }
+
     /// How many places there are.
     pub fn places(&self) -> usize
         ensures is { result ≡ places_of self.now }
@@ -126,7 +134,7 @@ fn is_counted(entries: usize, places: usize, steps: usize) -> bool
 }
 
 // Whether all next places are there.
-fn are_there(next: &[u32], places: usize) -> bool
+pub(crate) fn are_there(next: &[u32], places: usize) -> bool
     ensures { IsTrue result ↔ All (λ place. place < places) next.now }
 {
     next.iter().all(|place| is_there(*place, places))

@@ -1,3 +1,6 @@
+mod lead_heads;
+mod outlooks;
+
 use super::*;
 use std::alloc::Global;
 use std::test::*;

@@ -1,16 +1,13 @@
 -- Turns are finished work.
-use Rattle.std.proofs.Common.{◌≡◌, ℕ, zero, suc, ◌+◌, ◌<◌, ◌≤◌, ◌↔◌, ◌⊎◌, List, [], ◌∷◌, ◌++◌, length, reverse, take, drop, take_at, drop_at, All, inl, inr, refl, sym, ap, ◌∙◌, subst, arith}
+use Rattle.std.proofs.Common.{◌≡◌, ℕ, zero, suc, ◌+◌, ◌<◌, ◌≤◌, ◌↔◌, ◌⊎◌, List, [], ◌∷◌, ◌++◌, length, reverse, inl, inr, refl, sym, ap, ◌∙◌, subst, arith}
 use Rattle.std.proofs.lemmas.List.{reverse-append, reverse-reverse, length_push}
-use Rattle.std.proofs.lemmas.List.Elements.{All-head, All-same, All-take, All-drop}
 use Rattle.std.proofs.lemmas.List.Sums.{sum_by-cons}
-use Rattle.std.proofs.lemmas.List.Sorted.{IsPermutation-reverse, sum_by-IsPermutation}
 use Rattle.cr_model.specs.Problems.{ProblemParts}
-use Rattle.cr_model.specs.Nodes.{IsValid, Independent, Splits}
+use Rattle.cr_model.specs.Nodes.{Splits}
 use Rattle.cr_model.specs.OneTurn.{touch_found}
 use Rattle.cr_model.specs.Sizes.{most_rows, live_children, size, size_of_all}
 use Rattle.cr_node.specs.Work.{IsJob, IsDone}
 use Rattle.cr_explore.specs.Turns.{Searched, one_turn, after_turns}
-use Rattle.cr_explore.proofs.AnyOrder.{splits_again}
 use Rattle.cr_explore.proofs.Turning.{last_taken, none_taken}
 
 -- a search so far is finished work on the job, in so many turns at most, and in fewer only where nothing is left
@@ -19,35 +16,22 @@ pub record IsFinished (p : ProblemParts) (job : List (List ℕ)) (number : ℕ) 
   pub few : after.used ≤ number
   pub ends : (after.rest ≡ []) ⊎ (after.used ≡ number)
 
--- the laws of a lower crate, for one problem
-pub record TurnLaws (p : ProblemParts) : Type 0 where
-  pub one : (node : List ℕ) → IsValid p node → Splits p (node ∷ []) (touch_found p node) (live_children p most_rows node)
-  pub among : (job found rest others : List (List ℕ)) → Splits p job found rest → All (IsValid p) others → Independent p [] (others ++ job)
-      → Splits p (others ++ job) found (others ++ rest)
-  pub onward : (job found rest more left : List (List ℕ)) → Splits p job found rest → Splits p rest more left → Splits p job (found ++ more) left
-  pub size_of_node : (node : List ℕ) → size p most_rows node ≡ 1 + size_of_all p most_rows (live_children p most_rows node)
-  pub size_of_joined : (nodes more : List (List ℕ)) → size_of_all p most_rows (nodes ++ more) ≡ size_of_all p most_rows nodes + size_of_all p most_rows more
+-- what is known of turns and of jobs, for one problem
+pub record WorkLaws (p : ProblemParts) : Type 0 where
+  pub turned : (job found below : List (List ℕ)) (node : List ℕ) → Splits p job found (below ++ node ∷ [])
+      → Splits p job (found ++ touch_found p node) (below ++ reverse (live_children p most_rows node))
+  pub turned_size : (below : List (List ℕ)) (node : List ℕ) → size_of_all p most_rows (below ++ reverse (live_children p most_rows node)) + 1 ≡ size_of_all p most_rows (below ++ node ∷ [])
   pub not_begun : (nodes : List (List ℕ)) → IsJob p nodes → IsDone p nodes [] nodes 0
 
-module _ (p : ProblemParts) (laws : TurnLaws p) where
+module _ (p : ProblemParts) (laws : WorkLaws p) where
   -- one turn more, on the last node that is left
   one_more : (job found below : List (List ℕ)) (node : List ℕ) (used : ℕ) → IsDone p job found (below ++ node ∷ []) used
       → IsDone p job (found ++ touch_found p node) (below ++ reverse (live_children p most_rows node)) (used + 1)
-  one_more job found below node used done =
-      let live = live_children p most_rows node in
-      let valid : All (IsValid p) (below ++ node ∷ []) = λ k d inside. (done.splits.rest_valid k d inside).0 in
-      let others : All (IsValid p) below = All-same (IsValid p) below (take (length below) (below ++ node ∷ [])) (sym (take_at below (node ∷ []) (length below) refl)) (All-take (IsValid p) (length below) (below ++ node ∷ []) valid) in
-      let here : IsValid p node = All-head (IsValid p) node [] (All-same (IsValid p) (node ∷ []) (drop (length below) (below ++ node ∷ [])) (sym (drop_at below (node ∷ []) (length below) refl)) (All-drop (IsValid p) (length below) (below ++ node ∷ []) valid)) in
-      let alone : Independent p [] (below ++ node ∷ []) = record { nodes_apart = done.splits.independent.nodes_apart; found_apart = λ i j inside within. absurd (omega (arith, within)) } in
-      let turned = splits_again p (node ∷ []) (touch_found p node) live (reverse live) (IsPermutation-reverse live) (laws.one node here) in
-      let all = laws.among (node ∷ []) (touch_found p node) (reverse live) below turned others alone in
-      let backwards : size_of_all p most_rows (reverse live) ≡ size_of_all p most_rows live = sum_by-IsPermutation (size p most_rows) live (reverse live) (IsPermutation-reverse live) in
-      let alone_size : size_of_all p most_rows (node ∷ []) ≡ size p most_rows node = sum_by-cons (size p most_rows) node [] ∙ omega arith in
-      record {
-        job = done.job;
-        splits = laws.onward job found (below ++ node ∷ []) (touch_found p node) (below ++ reverse live) done.splits all;
-        size = omega (arith, done.size, backwards, alone_size, laws.size_of_node node, laws.size_of_joined below (node ∷ []), laws.size_of_joined below (reverse live));
-      }
+  one_more job found below node used done = record {
+    job = done.job;
+    splits = laws.turned job found below node done.splits;
+    size = omega (arith, done.size, laws.turned_size below node);
+  }
 
   -- after one turn more
   finished_more : (job : List (List ℕ)) (number : ℕ) (after : Searched) → IsFinished p job number after → IsFinished p job (suc number) (one_turn p most_rows after)

@@ -5,8 +5,11 @@ pub mod Turning
 pub mod Places
 pub mod Taking
 pub mod AnyOrder
+pub mod Splitting
 pub mod Finishing
+pub mod Passing
 pub mod Powers
 pub mod OneTest
+pub mod LookingAhead
 pub mod KeptTouches
 pub mod TouchParts

@@ -21,22 +21,27 @@ pub record RunProgress (p : ProblemParts) (most : ℕ) (job : List (List ℕ)) (
   pub taken : IsTaken p most job before from (place_at left base next) to
 
 module _ (p : ProblemParts) (most : ℕ) (job : List (List ℕ)) where
-  -- before the first turn
+  -- before the first turn all of the job is left
+  pub all_left : (base step : ℕ) (node : List ℕ) → base ≡ length node → step ≡ length p.leads → stack_of p most job (place_at (length job) base step) node ≡ job
+  all_left base step node here all =
+      let place : Place = place_at (length job) base step in
+      stack_tried p most job place node all ∙ below_base p most job place node here ∙ take_all (length job) job (omega arith)
+
   pub starts : (found : List (List ℕ)) (base step : ℕ) (node : List ℕ) → found ≡ [] → base ≡ length node → step ≡ length p.leads
       → so_far found (stack_of p most job (place_at (length job) base step) node) 0 ≡ after_turns p most job 0
-  starts found base step node none here all =
-      let place : Place = place_at (length job) base step in
-      let whole : stack_of p most job place node ≡ job = stack_tried p most job place node all ∙ below_base p most job place node here ∙ take_all (length job) job (omega arith) in
-      ap₂ (λ f r. so_far f r 0) none whole ∙ sym (no_turn p most job)
+  starts found base step node none here all = ap₂ (λ f r. so_far f r 0) none (all_left base step node here all) ∙ sym (no_turn p most job)
+
+  -- a node was taken, and all of its live children are still to be tried
+  pub all_untried : (place : Place) (node : List ℕ) → place.next ≡ 0 → stack_of p most job place node ≡ left_below p most job place node ++ reverse (live_children p most node)
+  all_untried place node first =
+      ap (λ step. left_below p most job place node ++ reverse (live_from p most node step)) first ∙ ap (λ nodes. left_below p most job place node ++ reverse nodes) (all_live p most node)
 
   -- one turn more
   pub goes_on : (before : Place) (from : List ℕ) (after : Place) (to : List ℕ) (found more : List (List ℕ)) (used : ℕ) → IsTaken p most job before from after to
       → more ≡ found ++ touch_found p to → so_far found (stack_of p most job before from) used ≡ after_turns p most job used
       → so_far more (stack_of p most job after to) (used + 1) ≡ after_turns p most job (used + 1)
   goes_on before from after to found more used taken finds h =
-      let all : stack_of p most job after to ≡ left_below p most job after to ++ reverse (live_children p most to) =
-      ap (λ step. left_below p most job after to ++ reverse (live_from p most to step)) taken.next ∙ ap (λ nodes. left_below p most job after to ++ reverse nodes) (all_live p most to) in
-      ap₂ (λ f r. so_far f r (used + 1)) finds all
+      ap₂ (λ f r. so_far f r (used + 1)) finds (all_untried after to taken.next)
       ∙ turn_more p most job used found (left_below p most job after to) to used (ap (λ r. so_far found r used) (sym taken.last) ∙ h)
 
   -- where nothing is left

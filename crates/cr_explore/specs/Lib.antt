@@ -1,4 +1,5 @@
 pub mod Turns
 pub mod Stacks
+pub mod Passing
 pub mod Keeping
 pub mod Searches

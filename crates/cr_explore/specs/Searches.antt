@@ -1,9 +1,10 @@
 -- The tables of a search.
-use Rattle.std.specs.Prelude.{◌≡◌, ℕ, ◌<◌, ◌≤◌, length, Option, IfSome}
+use Rattle.std.specs.Prelude.{◌≡◌, ℕ, ◌<◌, ◌≤◌, List, length, Option, IfSome}
 use Rattle.cr_model.specs.Problems.{ProblemParts}
 use Rattle.cr_model.specs.Sizes.{most_rows}
 use Rattle.cr_model.specs.Nodes.{IsValid}
 use Rattle.cr_model.specs.Sound.{IsSound}
+use Rattle.cr_ahead.specs.Outlooks.{OutlookParts, IsOutlook}
 use Rattle.cr_leads.specs.Tables.{TableParts, lead_table}
 use Rattle.cr_reach.specs.Tables.{ReachParts, reach_table}
 use Rattle.cr_false.specs.Sets.{IsWholeNumber}
@@ -44,6 +45,16 @@ pub record IsWalkPath (p : ProblemParts) (leads : TableParts) (walk : WalkParts)
   pub pruner_of : pruner.problem ≡ p
   pub reach : pruner.reach ≡ reach_table p most_rows
   pub tried : next ≤ length p.leads
+
+-- a path by numbers has an outlook from the heads of its numbers, and room for what its node has of each item of that
+pub record IsNarrowPath (p : ProblemParts) (numbers : NumberParts) (outlook : OutlookParts) (room : List ℕ) : Type 0 where
+  pub outlook_of : IsOutlook p numbers.heads outlook
+  pub room_for : length room ≡ length outlook.items
+
+-- the numbers of a search are those of the problem, and its outlook is from their heads
+pub record IsNarrow (p : ProblemParts) (numbers : NumberParts) (outlook : OutlookParts) : Type 0 where
+  pub numbered : IsNumbered p numbers
+  pub outlook_of : IsOutlook p numbers.heads outlook
 
 -- a walk at a valid node, and a pruner of its problem
 pub record IsReady (walk : WalkParts) (pruner : PrunerParts) : Type 0 where

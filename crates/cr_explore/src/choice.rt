@@ -1,10 +1,12 @@
 //! The choice of a search, by the size of the falseness table.
 
-ghost use Rattle.std.specs.Prelude.{◌≡◌, IfOk};
+ghost use Rattle.std.specs.Prelude.{◌≡◌, IfOk, IfSome};
 ghost use Rattle.cr_explore.specs.Searches.{searched, HasTableWhereItFits};
 
+use crate::narrow::NarrowSearch;
 use crate::row_search::RowSearch;
 use crate::table_search::TableSearch;
+use crate::tables::Tables;
 use cr_false::{Built, FalseTable};
 use cr_leads::LeadTable;
 use cr_model::Problem;
@@ -41,6 +43,44 @@ pub fn make_search(
         Built::Table(table) => Ok(Search::Table(TableSearch::with_leads(
             alloc, problem, leads, table,
         )?)),
+    }
+}
+
+impl Search {
+    /// Whether it has no numbers, so that it rings each lead. No clause speaks of it: what it finds and leaves is the same.
+    pub fn rings(&self) -> bool {
+        self.tables().numbers.is_none()
+    }
+
+    /// The same search with numbers, for one that turns out to be long: it takes up to some 600 MB and seconds to make,
+    /// and goes ten times as fast from then on. None where this one goes by numbers already, or they have no room, or no
+    /// memory is left.
+    pub fn with_more_room(&self, alloc: Global) -> Option<Search>
+        ensures { IfSome result (λ search. searched search ≡ searched self.now) }
+    {
+        match self.tables().with_more_room(alloc) {
+            Ok(Some(tables)) => Some(Search::Rows(RowSearch { tables })),
+            Ok(None) | Err(NoMemory) => None,
+        }
+    }
+
+    /// The same search for who counts no turns: it passes by the nodes that cannot come to what the query asks. None where
+    /// this one has no numbers, or where the tables of what can still come would have more than 256 MB. Err where no memory is
+    /// left.
+    pub fn looking_ahead(&self, alloc: Global) -> Result<Option<NarrowSearch<'_>>, NoMemory>
+        ensures { IfOk result (λ made. IfSome made (λ search. search ≡ searched self.now)) }
+    {
+        NarrowSearch::new(alloc, self.tables())
+    }
+
+    // The tables.
+    fn tables(&self) -> &Tables
+        ensures { result.now ≡ searched self.now }
+    {
+        match self {
+            Search::Rows(search) => &search.tables,
+            Search::Table(search) => &search.tables,
+        }
     }
 }
 

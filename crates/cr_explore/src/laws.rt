@@ -4,6 +4,7 @@ ghost use Rattle.std.specs.Prelude.{◌≡◌, ℕ, ◌+◌, ◌<◌, ◌≤◌,
 ghost use Rattle.cr_model.specs.Examples.{minimus, pair, asks};
 ghost use Rattle.cr_model.specs.Problems.{ProblemParts};
 ghost use Rattle.cr_model.specs.Nodes.{nodes_above, times_found, Independent, Splits};
+ghost use Rattle.cr_model.specs.Dead.{HasNoneBelow};
 ghost use Rattle.cr_model.specs.OneTurn.{touch_found};
 ghost use Rattle.cr_model.specs.Sizes.{most_rows, live_children, size_of_all};
 ghost use Rattle.cr_model.specs.Sound.{IsSound};
@@ -52,6 +53,43 @@ pub fn a_split_in_any_order()
         → Independent p found nodes → Independent p found other }
 {}
 
+/// A turn on the last node that is left goes on with a split of the job, and takes one off the size of what is left.
+pub fn a_turn_goes_on_with_a_split()
+    ensures splits { (p : ProblemParts) (job found below : List (List ℕ)) (node : List ℕ) → IsSound p
+        → Splits p job found (below ++ node ∷ [])
+        → Splits p job (found ++ touch_found p node) (below ++ reverse (live_children p most_rows node)) }
+    ensures size { (p : ProblemParts) (below : List (List ℕ)) (node : List ℕ) → IsSound p
+        → size_of_all p most_rows (below ++ reverse (live_children p most_rows node)) + 1
+        ≡ size_of_all p most_rows (below ++ node ∷ []) }
+{
+    a_split_among_others();
+    one_turn_splits_a_node();
+    sizes_are_sums();
+    splits_follow_one_another();
+}
+
+/// Nodes below which nothing is kept may be left out of what is left of a job: what is found stays whole, and each takes
+/// at least one off the size.
+pub fn nodes_with_none_below_may_be_left_out()
+    ensures splits { (p : ProblemParts) (job found rest passed : List (List ℕ)) → All (HasNoneBelow p) passed
+        → Splits p job found (rest ++ passed) → Splits p job found rest }
+    ensures size { (p : ProblemParts) (rest passed : List (List ℕ)) → IsSound p
+        → size_of_all p most_rows rest + length passed ≤ size_of_all p most_rows (rest ++ passed) }
+{
+    sizes_are_sums();
+}
+
+/// Where a split leaves nothing, each kept touch was found as often as nodes of the job are above it, which is once where
+/// these are independent, and nothing else was found.
+pub fn a_split_without_rest_is_found_whole()
+    ensures times { (p : ProblemParts) (job found : List (List ℕ)) → Splits p job found []
+        → (calling : List ℕ) → Kept p calling → times_found found calling ≡ nodes_above p job calling }
+    ensures each { (p : ProblemParts) (job found : List (List ℕ)) → Independent p [] job → Splits p job found []
+        → (calling : List ℕ) → Kept p calling → 1 ≤ nodes_above p job calling → times_found found calling ≡ 1 }
+    ensures only { (p : ProblemParts) (job found : List (List ℕ)) → Splits p job found []
+        → All (λ calling. Kept p calling × (1 ≤ nodes_above p job calling)) found }
+{}
+
 /// Turns on a job are finished work on it: of so many turns at most, and fewer only where nothing is left.
 pub fn turns_are_finished_work()
     ensures done { (p : ProblemParts) (job : List (List ℕ)) (number : ℕ) → IsSound p → IsJob p job
@@ -61,10 +99,7 @@ pub fn turns_are_finished_work()
     ensures ends { (p : ProblemParts) (job : List (List ℕ)) (number : ℕ) → IsSound p → IsJob p job
         → ((after_turns p most_rows job number).rest ≡ []) ⊎ ((after_turns p most_rows job number).used ≡ number) }
 {
-    a_split_among_others();
-    one_turn_splits_a_node();
-    sizes_are_sums();
-    splits_follow_one_another();
+    a_turn_goes_on_with_a_split();
     work_goes_on();
 }
 

@@ -6,9 +6,13 @@
 //! of a problem find and leave the same.
 //!
 //! - [`make_search`]: the search of a problem, which is an `Explorer`. It makes the tables, and takes their memory.
+//!   [`Search::with_more_room`]: the same search with larger tables, for one that rings and is long.
 //! - [`RowSearch`], [`TableSearch`]: a search without a falseness table, and one with it. A [`Search`] is either.
 //! - [`take_turns`]: the loop of turns over any path, and what it found and left ([`Explored`]).
-//! - [`NumberPath`], [`WalkPath`]: the paths.
+//! - [`find_all`]: the same loop for who counts no turns: it passes by the nodes below which a path knows that nothing is
+//!   kept.
+//!   [`Search::looking_ahead`]: the search ([`NarrowSearch`]) that does so.
+//! - [`NumberPath`], [`WalkPath`]: the paths. [`NarrowPath`]: one by numbers that knows what can still come.
 //! - [`first_unkept`]: the first of some touches that is not kept, told at the speed of the search.
 //!
 //! ```rust
@@ -24,10 +28,13 @@
 //! ```
 #![tactic(auto)]
 
+mod all_touches;
 mod choice;
 mod coming_round;
 mod keeping;
 pub mod laws;
+mod narrow;
+mod narrow_path;
 mod number_path;
 mod path;
 mod row_search;
@@ -39,8 +46,12 @@ mod touches;
 mod unkept;
 mod walk_path;
 mod walking;
+mod widths;
 
+pub use all_touches::find_all;
 pub use choice::{Search, make_search};
+pub use narrow::NarrowSearch;
+pub use narrow_path::NarrowPath;
 pub use number_path::NumberPath;
 pub use path::Path;
 pub use row_search::RowSearch;

@@ -67,6 +67,14 @@ impl<'a, const WIDTH: usize, const COUNTS: usize, const STEPS: usize> NumberPath
             walk,
         })
     }
+
+    /// The walk, which stands at the path's node.
+    #[inline(always)]
+    pub(crate) fn walk(&self) -> &NumberWalk<'a, WIDTH, COUNTS, STEPS>
+        ensures { result.now ≡ self.now }
+    {
+        &self.walk
+    }
 }
 
 impl<'a, const WIDTH: usize, const COUNTS: usize, const STEPS: usize> Path
@@ -107,6 +115,12 @@ impl<'a, const WIDTH: usize, const COUNTS: usize, const STEPS: usize> Path
 
     fn pass(&mut self) {
         self.walk.pass();
+    }
+
+    // Nothing is known but what makes a node dead.
+    #[inline(always)]
+    fn has_none_below(&mut self) -> bool {
+        false
     }
 
     #[inline(always)]

@@ -1,8 +1,9 @@
 //! Paths through the tree of nodes.
 
-ghost use Rattle.std.specs.Prelude.{◌≡◌, ℕ, ◌+◌, ◌<◌, ◌≤◌, List, length, IfOk, IfNone, IfSome};
+ghost use Rattle.std.specs.Prelude.{◌≡◌, ℕ, ◌+◌, ◌<◌, ◌≤◌, true, List, length, IfOk, IfNone, IfSome};
 ghost use Rattle.cr_model.specs.Problems.{ProblemParts};
 ghost use Rattle.cr_model.specs.Nodes.{IsValid};
+ghost use Rattle.cr_model.specs.Dead.{HasNoneBelow};
 ghost use Rattle.cr_model.specs.Decided.{is_kept};
 ghost use Rattle.cr_model.specs.OneTurn.{touch_of};
 ghost use Rattle.cr_model.specs.Sizes.{most_rows, child};
@@ -60,6 +61,13 @@ pub trait Path: Drop {
         ensures problem { problem_of self.new ≡ problem_of self.old }
         ensures node { node_of self.new ≡ node_of self.old }
         ensures next { next_of self.new ≡ length (problem_of self.old).leads };
+
+    /// Whether it is known that no kept touch is below the node. Where nothing is known it is false.
+    fn has_none_below(&mut self) -> bool
+        ensures problem { problem_of self.new ≡ problem_of self.old }
+        ensures node { node_of self.new ≡ node_of self.old }
+        ensures next { next_of self.new ≡ next_of self.old }
+        ensures none { result ≡ true → HasNoneBelow (problem_of self.old) (node_of self.old) };
 
     /// Whether the touch of the node, which is the node as often as the query has parts, is kept. Err where no memory
     /// is left.

@@ -74,7 +74,7 @@ pub fn take_turns<P: Path>(
 
 // No memory is left. The path is let go.
 #[inline(never)]
-fn without_memory<P: Drop>(_path: P) -> Result<Explored, NoMemory>
+pub(crate) fn without_memory<P: Drop>(_path: P) -> Result<Explored, NoMemory>
     ensures { IsErr result }
 {
     Err(NoMemory)
@@ -82,7 +82,7 @@ fn without_memory<P: Drop>(_path: P) -> Result<Explored, NoMemory>
 
 // Goes to the last node that is left on a path from a node with so many steps on. False where none is.
 #[inline(always)]
-fn descend<P: Path>(path: &mut P, base: usize) -> bool
+pub(crate) fn descend<P: Path>(path: &mut P, base: usize) -> bool
     requires { IsPlace (P.problem_of path.old) (place_at 0 base (P.next_of path.old)) (P.node_of path.old) }
     ensures problem { P.problem_of path.new ≡ P.problem_of path.old }
     ensures place { IsPlace (P.problem_of path.new) (place_at 0 base (P.next_of path.new)) (P.node_of path.new) }
@@ -105,7 +105,11 @@ fn descend<P: Path>(path: &mut P, base: usize) -> bool
 
 // Appends the touch of the path's node, if it is kept.
 #[inline(always)]
-fn find_touch<P: Path>(alloc: Global, path: &P, found: &mut Vec<Calling>) -> Result<(), NoMemory>
+pub(crate) fn find_touch<P: Path>(
+    alloc: Global,
+    path: &P,
+    found: &mut Vec<Calling>,
+) -> Result<(), NoMemory>
     requires { IsValid (P.problem_of path.now) (P.node_of path.now) }
     ensures { IfOk result (λ _. found.new.items
         ≡ found.old.items ++ touch_found (P.problem_of path.now) (P.node_of path.now)) }
@@ -118,7 +122,7 @@ fn find_touch<P: Path>(alloc: Global, path: &P, found: &mut Vec<Calling>) -> Res
 
 // The nodes that are left: of the job, and on the path.
 #[inline(never)]
-fn nodes_left<P: Path>(
+pub(crate) fn nodes_left<P: Path>(
     alloc: Global,
     path: P,
     left: usize,

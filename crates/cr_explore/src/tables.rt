@@ -19,6 +19,7 @@ use crate::number_path::NumberPath;
 use crate::search::{Explored, take_turns};
 use crate::unkept::{first_by_numbers, first_by_ringing};
 use crate::walk_path::WalkPath;
+use crate::widths::{by_steps, by_width};
 use cr_false::FalseTable;
 use cr_leads::LeadTable;
 use cr_model::{Calling, Problem};
@@ -32,8 +33,26 @@ use std::marker::Model;
 // How many rows the table of levels holds at most.
 const MOST_ROWS: u64 = 200_000;
 
-// How many bytes the records and numbers of all heads may take while they are made, 48 MB.
-const MOST_BYTES: u64 = 48_000_000;
+/// How much the numbers of a problem may take while they are made.
+#[derive(Clone, Copy)]
+struct Room {
+    // The bytes of the records and numbers of all heads.
+    bytes: u64,
+    // The rows that have numbers. Each takes some 24 bytes more.
+    rows: u32,
+}
+
+// For a search that may be short: what is made in this room takes less than half a second.
+const FIRST_ROOM: Room = Room {
+    bytes: 48_000_000,
+    rows: 1 << 20,
+};
+
+// For a search that is long: seconds. All heads of ten bells have room in it.
+const LONG_ROOM: Room = Room {
+    bytes: 512_000_000,
+    rows: 1 << 22,
+};
 
 // How many bytes a lead takes then, and how many each of its rows: of all rows and of the representative ones, and for the
 // leads in which a row stands.
@@ -81,10 +100,23 @@ impl Tables {
         requires { leads ≡ lead_table problem.now }
         ensures { IfOk result (λ tables. tables ≡ problem.now) }
     {
+        Tables::with_room(alloc, problem, leads, FIRST_ROOM)
+    }
+
+    // The same, where numbers have so much room.
+    fn with_room(
+        alloc: Global,
+        problem: &Problem,
+        leads: LeadTable,
+        room: Room,
+    ) -> Result<Tables, NoMemory>
+        requires { leads ≡ lead_table problem.now }
+        ensures { IfOk result (λ tables. tables ≡ problem.now) }
+    {
         let problem = problem.copy(alloc)?;
         let reach = reach_of(alloc, &problem, &leads)?;
-        let most_heads = room_for_heads(&leads);
-        let numbers = NumberTable::new(alloc, &problem, &leads, &reach, most_heads)?;
+        let heads = room_for_heads(room, &leads);
+        let numbers = NumberTable::new(alloc, &problem, &leads, &reach, heads, room.rows)?;
         Ok(Tables {
             problem,
             leads,
@@ -93,11 +125,48 @@ impl Tables {
         })
     }
 
+    /// The same tables with numbers for a long search: where these have none, and have room for them in 512 MB. Else None.
+    /// Err where no memory is left.
+    pub fn with_more_room(&self, alloc: Global) -> Result<Option<Tables>, NoMemory>
+        ensures { IfOk result (λ more. IfSome more (λ tables. tables ≡ self.now)) }
+    {
+        if self.numbers.is_some() {
+            return Ok(None);
+        }
+        let leads = LeadTable::new(alloc, &self.problem)?;
+        let tables = Tables::with_room(alloc, &self.problem, leads, LONG_ROOM)?;
+        if tables.numbers.is_none() {
+            return Ok(None);
+        }
+        Ok(Some(tables))
+    }
+
     /// The problem.
     pub fn problem(&self) -> &Problem
         ensures { result.now ≡ self.now }
     {
         &self.problem
+    }
+
+    /// The leads.
+    pub fn leads(&self) -> &LeadTable
+        ensures { result.now ≡ lead_table self.now }
+    {
+        &self.leads
+    }
+
+    /// The rows that are few leads from rounds.
+    pub fn reach(&self) -> &ReachTable
+        ensures { result.now ≡ reach_table self.now most_rows }
+    {
+        &self.reach
+    }
+
+    /// The numbers, where there are some.
+    pub fn numbers(&self) -> Option<&NumberTable>
+        ensures { IfSome result (λ numbers. IsNumbered self.now numbers.now) }
+    {
+        self.numbers.as_ref()
     }
 
     /// Explores a job: takes at most so many turns, by numbers where there are some, and else by a walk that asks the
@@ -139,21 +208,11 @@ impl Tables {
         let Some(numbers) = &self.numbers else {
             return first_by_ringing(alloc, problem, leads, touches);
         };
-        // The widths are those of `take_turns`.
-        match numbers.width() {
-            2 => first_by_numbers::<2>(alloc, problem, leads, numbers, touches),
-            3 => first_by_numbers::<3>(alloc, problem, leads, numbers, touches),
-            4 => first_by_numbers::<4>(alloc, problem, leads, numbers, touches),
-            6 => first_by_numbers::<6>(alloc, problem, leads, numbers, touches),
-            8 => first_by_numbers::<8>(alloc, problem, leads, numbers, touches),
-            12 => first_by_numbers::<12>(alloc, problem, leads, numbers, touches),
-            16 => first_by_numbers::<16>(alloc, problem, leads, numbers, touches),
-            24 => first_by_numbers::<24>(alloc, problem, leads, numbers, touches),
-            32 => first_by_numbers::<32>(alloc, problem, leads, numbers, touches),
-            64 => first_by_numbers::<64>(alloc, problem, leads, numbers, touches),
-            128 => first_by_numbers::<128>(alloc, problem, leads, numbers, touches),
-            _ => first_by_ringing(alloc, problem, leads, touches),
-        }
+        by_width!(
+            numbers.width(),
+            first_by_numbers(alloc, problem, leads, numbers, touches),
+            first_by_ringing(alloc, problem, leads, touches)
+        )
     }
 
     // Turns on a job, by numbers where there are some, and else by a walk.
@@ -174,31 +233,21 @@ impl Tables {
         let Some(numbers) = &self.numbers else {
             return turns_by_walk(alloc, problem, leads, &self.reach, table, job, turns);
         };
-        // These are all widths that there are. Another one would go by a walk.
-        match numbers.width() {
-            2 => turns_by_numbers::<2>(alloc, problem, leads, numbers, job, turns),
-            3 => turns_by_numbers::<3>(alloc, problem, leads, numbers, job, turns),
-            4 => turns_by_numbers::<4>(alloc, problem, leads, numbers, job, turns),
-            6 => turns_by_numbers::<6>(alloc, problem, leads, numbers, job, turns),
-            8 => turns_by_numbers::<8>(alloc, problem, leads, numbers, job, turns),
-            12 => turns_by_numbers::<12>(alloc, problem, leads, numbers, job, turns),
-            16 => turns_by_numbers::<16>(alloc, problem, leads, numbers, job, turns),
-            24 => turns_by_numbers::<24>(alloc, problem, leads, numbers, job, turns),
-            32 => turns_by_numbers::<32>(alloc, problem, leads, numbers, job, turns),
-            64 => turns_by_numbers::<64>(alloc, problem, leads, numbers, job, turns),
-            128 => turns_by_numbers::<128>(alloc, problem, leads, numbers, job, turns),
-            _ => turns_by_walk(alloc, problem, leads, &self.reach, table, job, turns),
-        }
+        by_width!(
+            numbers.width(),
+            turns_by_numbers(alloc, problem, leads, numbers, job, turns),
+            turns_by_walk(alloc, problem, leads, &self.reach, table, job, turns)
+        )
     }
 }
 
 // How many heads have room.
-fn room_for_heads(leads: &LeadTable) -> u64 {
+fn room_for_heads(room: Room, leads: &LeadTable) -> u64 {
     let mut bytes = 0;
     for step in 0..leads.count() {
         bytes += RECORD_BYTES + NUMBER_BYTES * leads.rows_of(step).len() as u64;
     }
-    MOST_BYTES / bytes.max(1)
+    room.bytes / bytes.max(1)
 }
 
 // The rows that are few leads from rounds.
@@ -226,15 +275,11 @@ fn turns_by_numbers<const WIDTH: usize>(
     ensures { IfOk result (λ done. record { found = done.found.items; rest = done.rest.items; used = done.used }
         ≡ after_turns problem.now most_rows job.now turns) }
 {
-    if is_counted(problem) {
-        return turns_on_path::<WIDTH, 1, 0>(alloc, problem, leads, numbers, job, turns);
-    }
-    // Most problems have a plain lead with bobs, or with bobs and singles.
-    match leads.count() {
-        2 => turns_on_path::<WIDTH, 0, 2>(alloc, problem, leads, numbers, job, turns),
-        3 => turns_on_path::<WIDTH, 0, 3>(alloc, problem, leads, numbers, job, turns),
-        _ => turns_on_path::<WIDTH, 0, 0>(alloc, problem, leads, numbers, job, turns),
-    }
+    by_steps!(
+        is_counted(problem),
+        leads.count(),
+        turns_on_path::<WIDTH>(alloc, problem, leads, numbers, job, turns)
+    )
 }
 
 // The same, where the query counts something, or nothing, and where the number of steps is known when this is compiled,

@@ -112,6 +112,11 @@ impl<'a> Path for WalkPath<'a> {
         self.next = self.leads.count();
     }
 
+    // Nothing is known but what makes a node dead.
+    fn has_none_below(&mut self) -> bool {
+        false
+    }
+
     fn is_kept(&self, alloc: Global) -> Result<bool, NoMemory> {
         a_test_decides_what_is_kept();
         is_touch_kept(alloc, self.problem, self.leads, &self.walk)

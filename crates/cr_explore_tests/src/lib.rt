@@ -2,6 +2,8 @@
 #![tactic(auto)]
 
 #[cfg(test)]
+mod ahead_tests;
+#[cfg(test)]
 mod tests;
 #[cfg(test)]
 mod unkept_tests;

@@ -175,7 +175,7 @@ fn reach_of(alloc: Global, problem: &Problem, leads: &LeadTable) -> Result<Reach
 fn numbered(alloc: Global, problem: &Problem) -> Result<Search, Fail> {
     let leads = LeadTable::new(alloc, problem)?;
     let reach = reach_of(alloc, problem, &leads)?;
-    if NumberTable::new(alloc, problem, &leads, &reach, 1000)?.is_none() {
+    if NumberTable::new(alloc, problem, &leads, &reach, 1000, 1 << 20)?.is_none() {
         return Err(Fail::from("there are no numbers"));
     }
     Ok(Search::Rows(RowSearch::new(alloc, problem)?))
@@ -327,6 +327,62 @@ fn tell(
         Chosen => explored(alloc, draft, &make_search(rt, alloc, &problem)?, turns),
         Rows => walked(alloc, draft, &problem, &leads, None, turns),
         Table => asked(rt, draft, &problem, &leads, turns),
+    }
+}
+
+// What a search finds and leaves in so many turns.
+fn told_by(alloc: Global, draft: &Draft, search: Search, turns: &[u64]) -> Result<Told, Fail> {
+    explored(alloc, draft, &search, turns)
+}
+
+// The same of a search that rings, once it has more room, or None where it does not ring.
+fn told_by_longer(
+    alloc: Global,
+    draft: &Draft,
+    search: &Search,
+    turns: &[u64],
+) -> Result<Option<Told>, Fail> {
+    if !search.rings() {
+        return Ok(None);
+    }
+    match search.with_more_room(alloc) {
+        Some(longer) => Ok(Some(told_by(alloc, draft, longer, turns)?)),
+        None => Err(Fail::from("a search that rings gets more room")),
+    }
+}
+
+// The same of the search of a problem.
+fn told_with_room(
+    rt: &(impl AllocGlobal + Threads + Sync),
+    draft: &Draft,
+    turns: &[u64],
+) -> Result<Option<Told>, Fail> {
+    let problem = problem(rt.alloc(), draft)?;
+    let search = make_search(rt, rt.alloc(), &problem)?;
+    told_by_longer(rt.alloc(), draft, &search, turns)
+}
+
+// Plain Bob Royal with bobs, which has more heads than a search that may be short makes numbers for.
+const ROYAL: Draft = Draft {
+    stage: 10,
+    leads: &[
+        (b'p', b"x.10.x.10.x.10.x.10.x.10.x.10.x.10.x.10.x.10.x.12"),
+        (b'b', b"x.10.x.10.x.10.x.10.x.10.x.10.x.10.x.10.x.10.x.14"),
+    ],
+    max: 400,
+    ..MINIMUS
+};
+
+#[test]
+fn a_long_search_has_numbers(rt: HostRuntime) -> Result<(), Fail> {
+    if told_with_room(&rt, &MINIMUS, &[3])?.is_some() {
+        return Err(Fail::from("Minimus has numbers from the start"));
+    }
+    let rung = tell(&rt, &ROYAL, Rows, &[2_000])?;
+    match told_with_room(&rt, &ROYAL, &[2_000])? {
+        Some(told) if told.text == rung.text && told.used == rung.used => Ok(()),
+        Some(_) => Err(Fail::from("by numbers and by ringing")),
+        None => Err(Fail::from("Royal has room")),
     }
 }
 

@@ -24,3 +24,4 @@ pub mod Uncut
 pub mod Turns
 pub mod Fitting
 pub mod Turned
+pub mod NextHeads

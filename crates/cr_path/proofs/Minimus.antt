@@ -14,6 +14,7 @@ use Rattle.cr_model.proofs.Deciding.{all_decided}
 use Rattle.cr_path.specs.Numbers.{lead_from, power, numbers_of, IsRecord, IsTold, IsNumbered}
 use Rattle.cr_path.specs.Examples.{lead_at, minimus_numbers, minimus_asked, called, called_numbers}
 use Rattle.cr_path.specs.declared.numbers.table.LeadRecord.{LeadRecord}
+use Rattle.cr_path.proofs.NextHeads.{heads_staged}
 
 -- the laws that this rests on
 pub record LevelLaws : Type 0 where
@@ -157,6 +158,7 @@ module _ (laws : LevelLaws) where
     counted = refl;
     some_head = lit< tt;
     first_head = refl;
+    staged = heads_staged;
     some_row = lit< tt;
     first_row = refl;
     within = (all_decided (λ (n : ℕ). nat_lt n 3) (λ (n : ℕ). n < 3) (λ n. Decides-ltb n 3) minimus_numbers.numbers).0 refl;

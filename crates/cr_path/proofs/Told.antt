@@ -170,6 +170,7 @@ module _ (p : ProblemParts) (t : RungParts) (rung : IsRung p t) (cover : List �
           counted = rung.counted;
           some_head = rung.some_head;
           first_head = rung.first_head;
+          staged = rung.staged;
           some_row = omega (arith, first.within, place);
           first_row = ap told_at (sym place) ∙ first.is ∙ rung.first_row;
           within = named.within;

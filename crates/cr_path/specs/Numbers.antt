@@ -1,5 +1,5 @@
 -- Lead heads and leads by numbers, as contracts see them.
-use Rattle.std.specs.Prelude.{◌≡◌, ℕ, zero, suc, ◌+◌, ◌-◌, ◌*◌, ◌<◌, ◌≤◌, Bool, not, ◌&&◌, ◌||◌, nat_lt, nat_eq, List, [], ◌∷◌, length, get_or, map, flat_map, take, drop, All}
+use Rattle.std.specs.Prelude.{◌≡◌, ℕ, zero, suc, ◌+◌, ◌-◌, ◌*◌, ◌/◌, ◌<◌, ◌≤◌, Bool, not, ◌&&◌, ◌||◌, nat_lt, nat_eq, List, [], ◌∷◌, length, get_or, map, flat_map, take, drop, All}
 use Rattle.std.specs.Cmp.Lexicographic.{pointwise}
 use Rattle.std.specs.List.{list_any, range_with_len}
 use Rattle.cr_row.specs.Rows.{rounds, product}
@@ -100,6 +100,7 @@ pub record IsNumbered (p : ProblemParts) (t : NumberParts) : Type 0 where
   pub counted : t.steps ≡ length p.leads
   pub some_head : 0 < length t.heads
   pub first_head : get_or t.heads 0 [] ≡ rounds p.stage
+  pub staged : All (λ head. length head ≡ p.stage) t.heads
   pub some_row : 0 < length t.rows
   pub first_row : get_or t.rows 0 [] ≡ rounds p.stage
   pub within : All (λ number. number < length t.rows) t.numbers
@@ -108,6 +109,18 @@ pub record IsNumbered (p : ProblemParts) (t : NumberParts) : Type 0 where
   pub told : (head step : ℕ) → head < length t.heads → step < t.steps → IsTold p t (lead_from p (get_or t.heads head []) step)
   pub twice : t.twice ≡ false_leads p (length p.leads)
   pub fitting : t.fittings ≡ map (all_fitting p t.heads) p.query.patterns
+
+-- by head and step, head after head, to which of some heads each step leads
+pub record AreNextHeads (p : ProblemParts) (heads : List (List ℕ)) (next : List ℕ) : Type 0 where
+  pub staged : All (λ head. length head ≡ p.stage) heads
+  pub counted : length next ≡ length heads * length p.leads
+  pub there : All (λ number. number < length heads) next
+  pub leads : (head step : ℕ) → head < length heads → step < length p.leads
+      → get_or heads (get_or next (head * length p.leads + step) 0) [] ≡ head_after p (get_or heads head []) step
+
+-- the number of the head after a lead, where each head has so many records
+abbrev pub next_head : ℕ → LeadRecord → ℕ
+next_head steps lead = lead.next / steps
 
 -- what the fields keep
 pub record AreKept (t : NumberParts) : Type 0 where

@@ -3,7 +3,7 @@
 ghost use Rattle.std.specs.Prelude.{◌≡◌, true, false, [], ◌∷◌, map};
 ghost use Rattle.cr_row.specs.Rows.{rounds};
 ghost use Rattle.cr_model.specs.Examples.{minimus, faulty, asks};
-ghost use Rattle.cr_path.specs.Numbers.{lead_from, brings_round, dies_after, IsTold, IsNumbered};
+ghost use Rattle.cr_path.specs.Numbers.{lead_from, brings_round, dies_after, IsTold, IsNumbered, AreNextHeads};
 ghost use Rattle.cr_path.specs.Examples.{minimus_numbers, minimus_asked, called, called_numbers};
 
 use cr_model::laws::{levels_list_rows, no_fewer_leads_lead_to_rounds, the_depth_is_greatest};
@@ -38,3 +38,13 @@ pub fn leads_die_at_the_edges()
     no_fewer_leads_lead_to_rounds();
     the_depth_is_greatest();
 }
+
+/// A plain lead of Plain Bob Minimus leads from each of the three heads to the next, and from the last one home; with two of
+/// them exchanged it does not. Where there is a call that comes round at once, and another plain lead, those of one head stand
+/// together, and not those of one step.
+pub fn heads_lead_to_heads()
+    ensures plain { AreNextHeads minimus minimus_numbers.heads (1 ∷ 2 ∷ 0 ∷ []) }
+    ensures exchanged { AreNextHeads minimus minimus_numbers.heads (2 ∷ 1 ∷ 0 ∷ []) → ⊥ }
+    ensures by_head { AreNextHeads called minimus_numbers.heads (1 ∷ 0 ∷ 1 ∷ 2 ∷ 1 ∷ 2 ∷ 0 ∷ 2 ∷ 0 ∷ []) }
+    ensures by_step { AreNextHeads called minimus_numbers.heads (1 ∷ 2 ∷ 0 ∷ 0 ∷ 1 ∷ 2 ∷ 1 ∷ 2 ∷ 0 ∷ []) → ⊥ }
+{}

@@ -6,11 +6,14 @@
 //!
 //! - [`NumberTable::new`]: the numbers of a problem, or `None` where there are too many of them.
 //! - [`NumberTable::width`]: how many numbers each lead has.
+//! - [`NumberTable::heads`], [`NumberTable::next_heads`]: the lead heads, and to which of them each step leads.
 //! - [`is_counted`]: whether the query counts anything.
 //! - [`NumberWalk::new`]: the walk at the root. All its memory is taken here. Its constants are the width of the
 //!   table, 0 only where nothing is counted, and the number of steps, or 0.
 //! - [`NumberWalk::go_to`]: goes to a node.
 //! - [`NumberWalk::go_down`], [`NumberWalk::go_up`]: to the next child that is not dead, and back.
+//! - [`NumberWalk::head_number`], [`NumberWalk::item_number`]: the number of the node's head, and how much the node has so
+//!   far of what the query limits.
 //! - [`NumberWalk::comes_round`], [`NumberWalk::is_least`]: whether the node's touch ends in rounds, and whether no
 //!   rotation of the node is less.
 //!
@@ -34,7 +37,8 @@ mod numbers;
 mod walks;
 
 pub use laws::{
-    a_row_in_common_is_told, leads_die_at_the_edges, plain_bob_minimus_has_its_numbers,
+    a_row_in_common_is_told, heads_lead_to_heads, leads_die_at_the_edges,
+    plain_bob_minimus_has_its_numbers,
 };
 pub use numbers::table::NumberTable;
 pub use walks::node_counts::is_counted;

@@ -66,7 +66,7 @@ fn table(alloc: Global, draft: &Draft, most_heads: u64) -> Result<Option<NumberT
     let problem = problem_of(alloc, draft)?;
     let leads = leads_of(alloc, &problem)?;
     let reach = reach_of(alloc, &problem, &leads)?;
-    match NumberTable::new(alloc, &problem, &leads, &reach, most_heads) {
+    match NumberTable::new(alloc, &problem, &leads, &reach, most_heads, 1 << 20) {
         Ok(table) => Ok(table),
         Err(_) => Err(Fail::from("there is memory")),
     }
@@ -107,5 +107,21 @@ fn heads_are_counted(rt: HostRuntime) -> Result<(), Fail> {
             return Err(Fail::from(name));
         }
     }
+    Ok(())
+}
+
+// To which heads the steps of a problem lead, head after head, if there is a table of so many heads.
+fn next_heads(alloc: Global, draft: &Draft, most_heads: u64) -> Result<Option<Vec<u32>>, Fail> {
+    match table(alloc, draft, most_heads)? {
+        Some(table) => Ok(table.next_heads(alloc).ok()),
+        None => Ok(None),
+    }
+}
+
+// A plain lead of Minimus leads to the next of three heads.
+#[test]
+fn heads_lead_to_heads(rt: HostRuntime) -> Result<(), Fail> {
+    let next = next_heads(rt.alloc(), &MINIMUS, 3)?.ok_or("there is a table")?;
+    assert!(rt; next.as_slice() == [1, 2, 0].as_slice());
     Ok(())
 }

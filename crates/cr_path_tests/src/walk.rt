@@ -1,10 +1,11 @@
-ghost use Rattle.std.specs.Prelude.{◌≡◌, IfOk};
+ghost use Rattle.std.specs.Prelude.{◌≡◌, ℕ, true, List, length, IfOk};
 ghost use Rattle.cr_leads.specs.Tables.{lead_table};
+ghost use Rattle.cr_query.specs.Meters.{item_numbers};
 ghost use Rattle.cr_path.specs.Numbers.{IsNumbered};
 
 use cr_leads::{LeadTable, Rung};
-use cr_model::Cell::Bell;
-use cr_model::{Calling, Problem};
+use cr_model::Cell::{Bell, Run};
+use cr_model::{Calling, Count, MethodCount, Problem};
 use cr_path::{NumberTable, NumberWalk};
 use cr_reach::ReachTable;
 use cr_samples::{DOUBLES, Draft, problem_of};
@@ -27,6 +28,29 @@ const ASKED: Draft = Draft {
     ..DOUBLES
 };
 
+// With a count of bobs, one of plain leads, one of the method, and a pattern: the 5 behind.
+const COUNTED: Draft = Draft {
+    counts: &[
+        Count {
+            mark: b'b',
+            min: 0,
+            max: 9,
+        },
+        Count {
+            mark: b'p',
+            min: 0,
+            max: 9,
+        },
+    ],
+    method_counts: &[MethodCount {
+        letter: b'A',
+        min: 0,
+        max: 12,
+    }],
+    cells: &[Run, Bell(5)],
+    ..DOUBLES
+};
+
 fn leads_of(alloc: Global, problem: &Problem) -> Result<LeadTable, Fail>
     ensures { IfOk result (λ leads. leads ≡ lead_table problem.now) }
 {
@@ -45,7 +69,7 @@ fn numbers_of(alloc: Global, problem: &Problem, leads: &LeadTable) -> Result<Num
         Ok(reach) => reach,
         Err(_) => return Err(Fail::from("there is memory")),
     };
-    match NumberTable::new(alloc, problem, leads, &reach, 1_000) {
+    match NumberTable::new(alloc, problem, leads, &reach, 1_000, 1 << 20) {
         Ok(Some(numbers)) => Ok(numbers),
         Ok(None) => Err(Fail::from("there are few heads")),
         Err(_) => Err(Fail::from("there is memory")),
@@ -171,6 +195,8 @@ enum Asked<'a> {
     LiveSteps,
     // Whether a node comes round: 1 where it does.
     Home(&'a [u8]),
+    // Whether a node has so much of each item, and its head a number: 1 where it does.
+    Items(&'a [u8], &'a [u32]),
 }
 
 // What a walk by the numbers of a problem answers.
@@ -190,6 +216,10 @@ fn answer_of(alloc: Global, problem: &Problem, leads: &LeadTable, asked: Asked) 
         Asked::RowsTwice => Ok(u64::from(goes_to_all(alloc, problem, leads, &mut walk)?)),
         Asked::LiveSteps => Ok(u64::from(goes_down_from_all(alloc, problem, leads, &mut walk)?)),
         Asked::Home(node) => Ok(u64::from(comes_round(alloc, problem, leads, &mut walk, node)?)),
+        Asked::Items(node, items) => {
+            go_to(alloc, problem, leads, &mut walk, node)?;
+            Ok(u64::from(has_items(problem, &walk, items) && finds_its_head(&numbers, &walk)))
+        }
     }
 }
 
@@ -355,10 +385,26 @@ fn comes_round(
 ) -> Result<bool, Fail>
     requires { walk.old.problem ≡ problem.now }
 {
-    if !goes_to(alloc, problem, leads, walk, node)? {
+    go_to(alloc, problem, leads, walk, node)?;
+    Ok(walk.comes_round())
+}
+
+// Goes to a node.
+fn go_to(
+    alloc: Global,
+    problem: &Problem,
+    leads: &LeadTable,
+    walk: &mut NumberWalk<3, 1, 0>,
+    node: &[u8],
+) -> Result<(), Fail>
+    requires { walk.old.problem ≡ problem.now }
+    ensures { walk.new.problem ≡ problem.now }
+{
+    // Of the root no row is rung, with which its head might be compared.
+    if !goes_to(alloc, problem, leads, walk, node)? && !node.is_empty() {
         return Err(Fail::from("the walk is elsewhere"));
     }
-    Ok(walk.comes_round())
+    Ok(())
 }
 
 #[test]
@@ -366,6 +412,64 @@ fn nodes_come_round(rt: HostRuntime) -> Result<(), Fail> {
     for &(name, draft, node, round) in HOMES {
         if answer(rt.alloc(), &draft, Asked::Home(node))? != u64::from(round) {
             return Err(Fail::from(name));
+        }
+    }
+    Ok(())
+}
+
+// Of nodes how many bobs they have, plain leads, leads of A, and rows with the 5 behind. Of a lead's rows the fifth bell of its
+// head is behind once, the third, the first and the second twice each, and the fourth three times.
+const ITEMS: &[(&[u8], &[u32])] = &[
+    (&[], &[0, 0, 0, 0]),
+    (&[0], &[0, 1, 1, 1]),
+    // 13524 has the 5 third.
+    (&[0, 0], &[0, 2, 2, 3]),
+    // 15432 has it second.
+    (&[0, 0, 1], &[1, 2, 3, 5]),
+    (&[1], &[1, 0, 1, 1]),
+    // 12354 has it fourth.
+    (&[1, 0], &[1, 1, 2, 4]),
+];
+
+// Whether the query has two counts of marks, one of a method, and one pattern.
+fn has_four_items(problem: &Problem) -> bool
+    ensures { result ≡ true → (node : List ℕ) → length (item_numbers problem.now node) ≡ 4 }
+{
+    let query = problem.query();
+    query.counts.len() == 2 && query.method_counts.len() == 1 && query.patterns.len() == 1
+}
+
+// Whether the query has four items, and the node so much of each.
+fn has_items(problem: &Problem, walk: &NumberWalk<3, 1, 0>, items: &[u32]) -> bool
+    requires { walk.now.problem ≡ problem.now }
+{
+    has_four_items(problem) && items.len() == 4 && are_items(walk, items)
+}
+
+fn are_items(walk: &NumberWalk<3, 1, 0>, items: &[u32]) -> bool
+    requires { length (item_numbers walk.now.problem walk.now.node) ≡ length items.now }
+{
+    for index in 0..items.len() {
+        if walk.item_number(index) != items[index] {
+            return false;
+        }
+    }
+    true
+}
+
+// Whether the walk finds the node's head among those of its numbers.
+fn finds_its_head(numbers: &NumberTable, walk: &NumberWalk<3, 1, 0>) -> bool {
+    match walk.head_number(numbers) {
+        Some(number) => numbers.heads().get(number as usize) == Some(&walk.head()),
+        None => false,
+    }
+}
+
+#[test]
+fn items_of_nodes(rt: HostRuntime) -> Result<(), Fail> {
+    for &(node, items) in ITEMS {
+        if answer(rt.alloc(), &COUNTED, Asked::Items(node, items))? != 1 {
+            return Err(Fail::from("a node has other items, or its head no number"));
         }
     }
     Ok(())

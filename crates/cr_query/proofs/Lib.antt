@@ -14,3 +14,4 @@ pub mod Metering
 pub mod StepSets
 pub mod StepBits
 pub mod Asked
+pub mod Items

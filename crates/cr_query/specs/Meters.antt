@@ -1,5 +1,5 @@
 -- Meters, as contracts see them: a problem and a node of it. And what is counted of a node.
-use Rattle.std.specs.Prelude.{◌≡◌, ℕ, ◌+◌, ◌-◌, ◌*◌, ◌≤◌, Bool, cond, ◌||◌, pos, int_lt, List, [], ◌∷◌, length, get_or, map, take, nat_eq, Option, Some, None}
+use Rattle.std.specs.Prelude.{◌≡◌, ℕ, ◌+◌, ◌-◌, ◌*◌, ◌≤◌, Bool, cond, ◌||◌, pos, int_lt, List, [], ◌∷◌, ◌++◌, length, get_or, map, take, nat_eq, Option, Some, None}
 use Rattle.std.specs.List.{list_any, range_with_len}
 use Rattle.cr_row.specs.Rows.{product}
 use Rattle.cr_model.specs.declared.query.Count.{Count}
@@ -31,6 +31,13 @@ meter_from p node = record { problem = p; node = node }
 -- all but the last step of a node
 abbrev pub parent : List ℕ → List ℕ
 parent node = take (length node - 1) node
+
+-- what a node has of each item that has limits: leads that each count of marks counts, leads that each count of methods counts, and rows that fit each pattern
+abbrev pub item_numbers : ProblemParts → List ℕ → List ℕ
+item_numbers p node =
+    map (λ count. leads_marked p count.mark node) p.query.counts
+    ++ (map (λ count. leads_lettered p count.letter node) p.query.method_counts
+    ++ map (λ pattern. rows_fitting pattern.cells (rows_of p node)) p.query.patterns)
 
 -- in all parts it has more leads than a count allows, or changes method too often
 abbrev pub has_too_many_leads : ProblemParts → List ℕ → Bool

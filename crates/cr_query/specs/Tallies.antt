@@ -14,6 +14,10 @@ at_front front tally = record { of = tally.of; least = tally.least; beyond = tal
 abbrev pub gauges_at : ℕ → List Tally → List Gauge
 gauges_at front tallies = map (at_front front) tallies
 
+-- how many leads each tally counts of a front
+abbrev pub leads_at : ℕ → List Tally → List ℕ
+leads_at front tallies = map (λ tally. get_or tally.numbers front 0) tallies
+
 -- a tally where the front after one has a lead more, with this mark or letter
 abbrev pub tallied : ℕ → ℕ → Tally → Tally
 tallied front of tally =
@@ -25,6 +29,10 @@ fitting_at front fitting = record { shape = fitting.shape; min = fitting.min; ma
 
 abbrev pub fittings_at : ℕ → List Fitting → List RowGauge
 fittings_at front fittings = map (fitting_at front) fittings
+
+-- how many rows of a front fit each pattern
+abbrev pub rows_at : ℕ → List Fitting → List ℕ
+rows_at front fittings = map (λ fitting. get_or fitting.numbers front 0) fittings
 
 -- and where the front after one has so many rows more, those of a lead more, and so many for each pattern
 abbrev pub rows_on : ℕ → ℕ → Fitting → Fitting

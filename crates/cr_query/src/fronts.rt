@@ -36,6 +36,15 @@ impl Fronts {
         Ok(Fronts { numbers })
     }
 
+    /// The number of a front, as it is kept.
+    #[inline(always)]
+    pub fn number(&self, front: usize) -> u32
+        requires { front ≤ 1024 }
+        ensures { result ≡ get_or self.now front 0 }
+    {
+        self.numbers[front]
+    }
+
     /// The number of a front.
     #[inline(always)]
     pub fn at(&self, front: usize) -> u64

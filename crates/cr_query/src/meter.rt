@@ -1,6 +1,6 @@
 //! Meters: whether a node that grows and shrinks at its end can still come to a touch that meets the query.
 
-ghost use Rattle.std.specs.Prelude.{◌≡◌, ◌-◌, ◌<◌, ◌≤◌, ◌↔◌, ◌||◌, ℕ, true, false, List, [], length, Some, IsTrue, IfOk};
+ghost use Rattle.std.specs.Prelude.{◌≡◌, ◌-◌, ◌<◌, ◌≤◌, ◌↔◌, ◌||◌, ℕ, true, false, List, [], length, get_or, Some, IsTrue, IfOk};
 ghost use Rattle.cr_leads.specs.Tables.{lead_table};
 ghost use Rattle.cr_model.specs.Callings.{head_of, length_of};
 ghost use Rattle.cr_model.specs.Dead.{is_too_many, is_too_few};
@@ -10,7 +10,7 @@ ghost use Rattle.cr_model.specs.Sizes.{child};
 ghost use Rattle.cr_query.specs.Hits.{AreAlike};
 ghost use Rattle.cr_query.specs.Sets.{has_step};
 ghost use Rattle.cr_query.specs.Meeting.{MeetsCounts, MeetsMethodCounts};
-ghost use Rattle.cr_query.specs.Meters.{meter_from, parent, rows_fitting_after, has_too_many_leads, has_too_few_leads, has_too_few_rows, is_hopeless_by_leads, is_hopeless_by_rows};
+ghost use Rattle.cr_query.specs.Meters.{meter_from, parent, item_numbers, rows_fitting_after, has_too_many_leads, has_too_few_leads, has_too_few_rows, is_hopeless_by_leads, is_hopeless_by_rows};
 ghost use Rattle.cr_query.specs.declared.meter.Hopeless.TheVariants.{TooMany, TooFew};
 
 use crate::compiling::{fittings_of, kinds_of, step_count};
@@ -21,11 +21,11 @@ use crate::meeting::patterns_of;
 use crate::nodes::kind_at;
 use crate::numbers::{Numbers, numbers_of};
 use crate::pattern_limits::{
-    Fitting, raise_counted, raise_rows, some_are_out, some_have_fewer, some_have_more,
+    Fitting, raise_counted, raise_rows, rows_at, some_are_out, some_have_fewer, some_have_more,
 };
 use crate::rooms::{room_at, rooms_of};
 use crate::step_sets::{first_steps, with_step};
-use crate::tallies::all_in;
+use crate::tallies::{all_in, leads_at};
 use cr_leads::LeadTable;
 use cr_model::Problem;
 use cr_model::laws::{joined_callings_multiply, ringing_on};
@@ -240,6 +240,25 @@ impl Meter {
             → result ≡ (is_too_many self.now.problem self.now.node || is_too_few self.now.problem self.now.node) }
     {
         some_are_out(&self.patterns, self.leads.front(), self.rows_left())
+    }
+
+    /// How much the node has of the item at an index: the items are the query's counts of marks, then its counts of
+    /// methods, then its patterns. Of a count it is a number of leads, of a pattern of rows that fit.
+    #[inline(always)]
+    pub fn item_number(&self, item: usize) -> u32
+        requires { item < length (item_numbers self.now.problem self.now.node) }
+        ensures { result ≡ get_or (item_numbers self.now.problem self.now.node) item 0 }
+    {
+        let front = self.leads.front();
+        let marks = self.leads.marks.len();
+        let letters = self.leads.letters.len();
+        if item < marks {
+            leads_at(&self.leads.marks, item, front)
+        } else if item - marks < letters {
+            leads_at(&self.leads.letters, item - marks, front)
+        } else {
+            rows_at(&self.patterns, item - marks - letters, front)
+        }
     }
 
     /// Whether the node's touch, which is so many times the node as the query has parts, meets each count of

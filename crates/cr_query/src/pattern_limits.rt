@@ -1,9 +1,9 @@
 //! Limits on numbers of rows, of each front of a node.
 
-ghost use Rattle.std.specs.Prelude.{◌≡◌, ◌<◌, ◌≤◌, ◌||◌, length, map, All};
+ghost use Rattle.std.specs.Prelude.{◌≡◌, ◌<◌, ◌≤◌, ◌||◌, length, get_or, map, All};
 ghost use Rattle.std.specs.List.{list_any};
 ghost use Rattle.cr_query.specs.Gauges.{has_more_rows, has_fewer_rows, HasFewRows};
-ghost use Rattle.cr_query.specs.Tallies.{fitting_at, fittings_at, rows_on, lead_on, all_on};
+ghost use Rattle.cr_query.specs.Tallies.{fitting_at, fittings_at, rows_at, rows_on, lead_on, all_on};
 
 use crate::fronts::Fronts;
 use crate::limits::{exceeds, falls_short};
@@ -44,6 +44,16 @@ pub fn raise_counted(fittings: &mut [Fitting], front: usize, rows: &[u8])
     for index in 0..fittings.len() {
         raise_by(&mut fittings[index], front, rows[index]);
     }
+}
+
+/// How many rows of a front fit the pattern at an index.
+#[inline(always)]
+pub fn rows_at(fittings: &[Fitting], index: usize, front: usize) -> u32
+    requires index { index < length fittings.now }
+    requires front { front ≤ 1024 }
+    ensures { result ≡ get_or (rows_at front fittings.now) index 0 }
+{
+    fittings[index].numbers.number(front)
 }
 
 /// Whether more rows of a front fit some pattern than it allows.

@@ -1,9 +1,9 @@
 //! Limits on numbers of leads, of each front of a node.
 
-ghost use Rattle.std.specs.Prelude.{◌≡◌, ◌<◌, ◌≤◌, ◌↔◌, ℕ, length, map, All, IsTrue};
+ghost use Rattle.std.specs.Prelude.{◌≡◌, ◌<◌, ◌≤◌, ◌↔◌, ℕ, length, get_or, map, All, IsTrue};
 ghost use Rattle.std.specs.List.{list_any};
 ghost use Rattle.cr_query.specs.Gauges.{raised, is_above, is_below, is_out, IsIn, AreFew, AreOf};
-ghost use Rattle.cr_query.specs.Tallies.{at_front, gauges_at, tallied};
+ghost use Rattle.cr_query.specs.Tallies.{at_front, gauges_at, leads_at, tallied};
 ghost use Rattle.cr_query.specs.Sets.{has_step};
 
 use crate::fronts::Fronts;
@@ -56,6 +56,16 @@ fn count(tally: &mut Tally, front: usize, of: u8)
 {
     let more = hit(of, tally.of);
     tally.numbers.count(front, more);
+}
+
+/// How many leads of a front the tally at an index counts.
+#[inline(always)]
+pub fn leads_at(tallies: &[Tally], index: usize, front: usize) -> u32
+    requires index { index < length tallies.now }
+    requires front { front ≤ 1024 }
+    ensures { result ≡ get_or (leads_at front tallies.now) index 0 }
+{
+    tallies[index].numbers.number(front)
 }
 
 /// Whether some number of a front is beyond its limits.

@@ -19,12 +19,13 @@ use std::sync::Wait;
 use std::sync::ledger::{Blank, Ledger};
 use std::thread::Threads;
 
-// For how many numbers of jobs all lanes have room together: a whole board of 2^28 turns has as many grants of 4,096 turns,
-// and each opens at most two jobs. Those that find no room are not lost: the board tells its jobs too.
-const ROOM: u64 = 131_072;
+// For how many numbers of jobs all lanes have room together. A deque is made with all its room, 32 bytes for each number, and
+// to touch a fresh page takes some microseconds. Numbers that find no room are not lost: the board tells its jobs too.
+const ROOM: u64 = 4_096;
 
-// The most for which one lane has room.
-const LANE_ROOM: u64 = 65_536;
+// The most for which one lane has room, 64 KB. Once it has let go a list above 128 KB, glibc's allocator keeps lists of that
+// size in its heap, where those that grow are copied.
+const LANE_ROOM: u64 = 2_048;
 
 /// Opens a board and runs it to its end, by its workers side by side, in a thread each where one can be started, until no
 /// job is left or all turns of the budget are spent. What they leave, as where one of them found no memory, one worker
@@ -44,7 +45,7 @@ pub fn run_workers<R: Threads + Wait + Sync, E: Explorer + Sync>(
 
 // For how many numbers the lane of each of so many workers has room.
 fn room_of_each(workers: u32) -> u64
-    ensures { (1 ≤ result) × (result ≤ 65536) }
+    ensures { (1 ≤ result) × (result ≤ 2048) }
 {
     (ROOM / u64::from(workers.max(1))).clamp(1, LANE_ROOM)
 }

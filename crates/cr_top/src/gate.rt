@@ -3,6 +3,7 @@
 use cr_model::Problem;
 use cr_node::{Done, Explorer, Node};
 use cr_row::NoMemory;
+use cr_shifts::{Finder, Findings};
 use std::alloc::Global;
 
 /// What each exploration of a search enters first, outside any lock. It promises nothing, and no clause speaks of it:
@@ -20,7 +21,7 @@ impl Gate for OpenGate {
     fn enter(&self) {}
 }
 
-/// An explorer that enters a gate before each exploration.
+/// An explorer, or a finder, that enters a gate before each exploration.
 #[derive(Drop)]
 pub struct Gated<'a, E, G> {
     pub explorer: &'a E,
@@ -39,5 +40,14 @@ impl<'a, E: Explorer, G: Gate> Explorer for Gated<'a, E, G> {
     fn explore(&self, alloc: Global, job: &[Node], turns: u64) -> Result<Done, NoMemory> {
         self.gate.enter();
         self.explorer.explore(alloc, job, turns)
+    }
+}
+
+impl<'a, F: Finder, G: Gate> Finder for Gated<'a, F, G> {
+    ghost finds = { λ gated. F.finds gated.explorer.now };
+
+    fn find(&self, alloc: Global, job: &[Node], turns: u64) -> Result<Findings, NoMemory> {
+        self.gate.enter();
+        self.explorer.find(alloc, job, turns)
     }
 }

@@ -42,6 +42,7 @@ mod last;
 pub mod laws;
 mod logging;
 mod making;
+mod narrow;
 mod notes;
 mod outcome;
 mod piece;

@@ -21,6 +21,8 @@ use cr_model::{Calling, Lead, Problem, Query, Step};
 use cr_row::{Change, NoMemory, Stage};
 use cr_store::Remaining;
 use cr_store::laws::each_touch_is_covered_once;
+use cr_trail::RunProgress;
+use cr_trail::laws::runs_follow_one_another;
 use std::alloc::Global;
 use std::sync::Wait;
 use std::thread::Threads;
@@ -88,7 +90,9 @@ fn left_by<R: AllocGlobal + Threads + Wait + Sync>(
     requires few_workers { workers ≤ 64 }
     ensures { IfOk result (λ now. RunsTo (searched search.now) left.found.items (lists left.jobs.items) None now.found.items (lists now.jobs.items)) }
 {
-    let went = run_by(rt, workers, search, left, None)?;
+    runs_follow_one_another();
+    let before = RunProgress::begun(rt.alloc(), left)?;
+    let went = run_by(rt, workers, search, before, None)?;
     Ok(went.left)
 }
 

@@ -15,8 +15,8 @@ ghost use Rattle.cr_top.specs.Refused.{WritesSearch};
 
 use crate::Status;
 use crate::answers::inputs_have_one_answer;
-use crate::boards::{run_by, run_by_one};
-use crate::gate::{Gate, Gated};
+use crate::boards::{search_by, search_by_one};
+use crate::gate::Gate;
 use crate::preparing::prepare;
 use crate::refusal::{Refusal, status_for};
 use crate::searching::outcome_of;
@@ -78,11 +78,7 @@ fn searched_alone<R: AllocGlobal + Threads + Sync, S: Source, K: Sink, G: Gate +
 {
     let prepared = prepare(rt, source)?;
     let start = prepared.start;
-    let gated = Gated {
-        explorer: &prepared.search,
-        gate,
-    };
-    let went = run_by_one(rt.alloc(), &gated, start.left, turns)?;
+    let went = search_by_one(rt, &prepared.search, gate, start.left, turns)?;
     write_search(rt, 1, &start.problem, &start.bytes, went, turns, sink)
 }
 
@@ -109,11 +105,7 @@ pub fn searched_together<
 {
     let prepared = prepare(rt, source)?;
     let start = prepared.start;
-    let gated = Gated {
-        explorer: &prepared.search,
-        gate,
-    };
-    let went = run_by(rt, workers, &gated, start.left, turns)?;
+    let went = search_by(rt, workers, &prepared.search, gate, start.left, turns)?;
     write_search(rt, workers, &start.problem, &start.bytes, went, turns, sink)
 }
 

@@ -9,7 +9,7 @@ ghost use Rattle.cr_top.specs.Endings.{EndsTrail, IsDue, status_of};
 use crate::Status;
 use crate::answers::inputs_have_one_answer;
 use crate::boards::{trail_by, trail_by_one};
-use crate::gate::{Gate, Gated};
+use crate::gate::Gate;
 use crate::preparing::prepare;
 use crate::refusal::{Refusal, result_for, status_for};
 use cr_io::{Sink, Source};
@@ -63,11 +63,7 @@ fn trailed_alone<R: AllocGlobal + Threads + Sync, S: Source, K: Sink, G: Gate + 
     a_trail_of_what_an_input_says();
     let prepared = prepare(rt, source)?;
     let start = prepared.start;
-    let gated = Gated {
-        explorer: &prepared.search,
-        gate,
-    };
-    let end = trail_by_one(rt, &gated, start, every, sink);
+    let end = trail_by_one(rt, &prepared.search, gate, start, every, sink);
     result_for(end)
 }
 
@@ -91,10 +87,6 @@ pub fn trailed_together<R: AllocGlobal + Threads + Wait + Sync, S: Source, K: Si
     a_trail_of_what_an_input_says();
     let prepared = prepare(rt, source)?;
     let start = prepared.start;
-    let gated = Gated {
-        explorer: &prepared.search,
-        gate,
-    };
-    let end = trail_by(rt, workers, &gated, start, every, sink);
+    let end = trail_by(rt, workers, &prepared.search, gate, start, every, sink);
     result_for(end)
 }

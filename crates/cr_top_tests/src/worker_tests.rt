@@ -40,6 +40,20 @@ fn workers_search_together(rt: HostRuntime) -> Result<(), Fail> {
     Ok(())
 }
 
+// Six bells have 720 rows, so no touch is longer. A search that took every turn would take hours.
+const TOO_LONG: &str =
+    "stage = 6\n[[method]]\nletter = \"A\"\nnotation = \"x16x16x16,12\"\n[[call]]\nmark = \"b\"\nnotation = \"14\"\n[query]\nmin = 1250\nmax = 1300\n";
+
+#[test]
+fn a_search_that_looks_ahead(rt: HostRuntime) -> Result<(), Fail> {
+    for workers in ["1", "4"] {
+        let (ended, text) = answered(&rt, &["--workers", workers], TOO_LONG.as_bytes())?;
+        check("the status", ended == 0)?;
+        check("the book", text.as_slice() == "touches 0\n".as_bytes())?;
+    }
+    Ok(())
+}
+
 // A gate whose first guest waits until a second one has come, for so many turns of a loop at most.
 #[derive(Drop)]
 struct Meeting {

@@ -9,3 +9,4 @@ pub mod Written
 pub mod Counting
 pub mod Resuming
 pub mod Ready
+pub mod Following

@@ -1,5 +1,5 @@
 -- The next checkpoint of a search, whatever the order of what it found.
-use Rattle.std.proofs.Common.{◌≡◌, ℕ, ◌+◌, ◌<◌, ◌≤◌, ◌↔◌, List, [], ◌++◌, length, sym, subst, arith}
+use Rattle.std.proofs.Common.{◌≡◌, ℕ, ◌+◌, ◌<◌, ◌≤◌, ◌↔◌, List, [], ◌++◌, length, Some, sym, subst, arith}
 use Rattle.std.specs.Prelude.{All}
 use Rattle.std.specs.List.Sorted.{IsPermutation, IsSorted, IsStrictlySortedBy}
 use Rattle.std.proofs.lemmas.List.Sorted.{IsPermutation-append_left, IsPermutation-sym, IsPermutation-trans, All-permutation}
@@ -13,7 +13,8 @@ use Rattle.cr_board.specs.Partitions.{IsPartition, EachOnce}
 use Rattle.cr_store.specs.Searches.{WentOn}
 use Rattle.cr_store.specs.Written.{IsTextOfLeft}
 use Rattle.cr_store.proofs.Leaving.{left_goes_on, left_covers}
-use Rattle.cr_trail.specs.Writing.{RunsOn, IsReadyAfter}
+use Rattle.cr_trail.specs.Runs.{RunsOn}
+use Rattle.cr_trail.specs.Writing.{IsReadyAfter}
 use Rattle.cr_trail.proofs.Going.{Begun, Onward, steps_of_kept}
 use Rattle.cr_trail.proofs.Trailing.{went_by}
 
@@ -36,7 +37,7 @@ Strict = (p : ProblemParts) (callings sorted : List (List ℕ)) → IsPermutatio
 
 module _ (begun : Begun) (onward : Onward) (p : ProblemParts) (held found : List (List ℕ)) (jobs : List (List (List ℕ))) (every : ℕ)
     (same : IsPermutation held found) (on : CanGoOn p found jobs)
-    (now : List (List ℕ)) (left : List (List (List ℕ))) (ran : RunsOn p held jobs every now left) where
+    (now : List (List ℕ)) (left : List (List (List ℕ))) (ran : RunsOn p held jobs (Some every) now left) where
   -- all that is found, with what was found before in order
   abbrev all : List (List ℕ)
   all = found ++ ran.more

@@ -1,5 +1,5 @@
 -- How a search goes on from found touches and jobs, and where it ends.
-use Rattle.std.specs.Prelude.{◌≡◌, ℕ, ◌<◌, ◌≤◌, ◌⊎◌, ◌-◌, ⊤, min, List, [], length, All, Option, Some, None, option_map}
+use Rattle.std.specs.Prelude.{◌≡◌, ℕ, ◌<◌, ◌≤◌, ◌⊎◌, ◌-◌, ⊤, min, List, [], ◌++◌, length, All, Option, Some, None, option_map}
 use Rattle.cr_model.specs.Problems.{ProblemParts}
 use Rattle.cr_model.specs.Sizes.{most_rows, size_of_all}
 use Rattle.cr_model.specs.Checkpoints.{nodes_of_jobs}
@@ -22,6 +22,14 @@ pub record RunsTo (p : ProblemParts) (found : List (List ℕ)) (jobs : List (Lis
   pub way : WentOn p found jobs now left used
   pub keeps : KeepsTo turns used
   pub ends : (left ≡ []) ⊎ (turns ≡ Some used)
+
+-- a search went on from jobs, until none was left or the turns that are allowed were used: what it found stands behind
+-- what was found before, in whatever order that is
+pub record RunsOn (p : ProblemParts) (found : List (List ℕ)) (jobs : List (List (List ℕ))) (turns : Option ℕ)
+    (now : List (List ℕ)) (left : List (List (List ℕ))) : Type 0 where
+  pub more : List (List ℕ)
+  pub behind : now ≡ found ++ more
+  pub run : RunsTo p [] jobs turns more left
 
 -- one board, which was opened with the jobs alone, went on until no job was left or its turns were used: what it found
 -- and left is a partition of the jobs, and none that it left is empty
@@ -48,3 +56,10 @@ pub record UnderWay (p : ProblemParts) (found : List (List ℕ)) (jobs : List (L
   pub way : WentOn p found jobs now left used
   pub keeps : KeepsTo turns used
   pub rest : allowed ≡ turns_after turns used
+
+-- the same behind touches that were found before: what it found so far comes behind them
+pub record OnTheWay (p : ProblemParts) (found : List (List ℕ)) (jobs : List (List (List ℕ))) (turns : Option ℕ)
+    (now : List (List ℕ)) (left : List (List (List ℕ))) (allowed : Option ℕ) : Type 0 where
+  pub more : List (List ℕ)
+  pub behind : now ≡ found ++ more
+  pub way : UnderWay p [] jobs turns more left allowed

@@ -1,5 +1,5 @@
 -- A trail that is being written.
-use Rattle.std.specs.Prelude.{◌≡◌, ℕ, ◌+◌, ◌≤◌, ◌⊎◌, ◌↔◌, List, [], ◌∷◌, ◌++◌, Some, Result, Ok, Err}
+use Rattle.std.specs.Prelude.{◌≡◌, ℕ, ◌+◌, ◌≤◌, ◌⊎◌, ◌↔◌, List, [], ◌∷◌, ◌++◌, Result, Ok, Err}
 use Rattle.std.specs.List.Sorted.{IsPermutation}
 use Rattle.cr_io.specs.Causes.{Rose}
 use Rattle.cr_io.specs.Grown.{GrowsByFront}
@@ -7,7 +7,7 @@ use Rattle.cr_model.specs.Problems.{ProblemParts}
 use Rattle.cr_model.specs.Nodes.{Covers}
 use Rattle.cr_model.specs.Checkpoints.{CanGoOn, checkpoint_text, nodes_of_jobs}
 use Rattle.cr_store.specs.Blocks.{block, blocks, IsBody}
-use Rattle.cr_trail.specs.Runs.{size_of_jobs, RunsTo}
+use Rattle.cr_trail.specs.Runs.{size_of_jobs}
 use Rattle.cr_trail.specs.Trails.{IsTrailFrom}
 use Rattle.cr_trail.specs.declared.trail.TrailEnd.{TrailEnd}
 use Rattle.cr_trail.specs.declared.trail.TrailEnd.TheVariants as ended
@@ -36,13 +36,6 @@ pub record WentBy (p : ProblemParts) (found : List (List ℕ)) (jobs : List (Lis
   pub size : size_of_jobs p left + used ≡ size_of_jobs p jobs
   pub keeps : used ≤ every
   pub ends : (left ≡ []) ⊎ (every ≡ used)
-
--- a search went on by so many turns: what it found stands behind what was found before
-pub record RunsOn (p : ProblemParts) (found : List (List ℕ)) (jobs : List (List (List ℕ))) (every : ℕ)
-    (now : List (List ℕ)) (left : List (List (List ℕ))) : Type 0 where
-  pub more : List (List ℕ)
-  pub behind : now ≡ found ++ more
-  pub run : RunsTo p [] jobs (Some every) more left
 
 -- the text is the checkpoint of what is found, once it is put in order, and left
 pub record IsReady (p : ProblemParts) (bytes : List ℕ) (found : List (List ℕ)) (left : List (List (List ℕ))) (text : List ℕ)

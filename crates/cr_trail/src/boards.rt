@@ -4,8 +4,9 @@ ghost use Rattle.std.specs.Prelude.{◌≡◌, ◌<◌, ◌≤◌, ◌⊎◌, �
 ghost use Rattle.cr_model.specs.Checkpoints.{CanGoOn};
 ghost use Rattle.cr_run.specs.Runs.{IsRun};
 ghost use Rattle.cr_store.specs.Written.{lists};
-ghost use Rattle.cr_trail.specs.Runs.{KeepsTo, BoardRan, RunsTo, board_turns, turns_after};
+ghost use Rattle.cr_trail.specs.Runs.{KeepsTo, BoardRan, RunsTo, RunsOn, board_turns, turns_after};
 
+use crate::laws::runs_follow_one_another;
 use crate::runner::Runner;
 use cr_board::laws::{journals_tell_boards, partitions_follow_one_another};
 use cr_board::{Entry, Opening};
@@ -29,6 +30,17 @@ pub struct RunProgress {
     pub handed: Vec<u64>,
 }
 
+impl RunProgress {
+    /// Where a search is that goes on from what is left. Err where no memory is left.
+    pub fn begun(alloc: Global, left: Remaining) -> Result<RunProgress, NoMemory>
+        ensures { IfOk result (λ now. now.left ≡ left) }
+    {
+        let mut handed = Vec::with_capacity(alloc, 1)?;
+        handed.push(left.found.len() as u64)?;
+        Ok(RunProgress { left, handed })
+    }
+}
+
 /// Goes on with a search on boards for so many workers, each of which the runner runs to its end, and has at most so many
 /// turns, until no job is left or the turns that are allowed are used. Each board is opened with the jobs alone: what was
 /// found stands aside, in one list, behind what had been found before, and is not sorted. Its memory does not grow with
@@ -50,13 +62,59 @@ pub fn run_boards<R: Runner>(
     ensures { IfOk result (λ now. RunsTo (R.searches runner.now) left.found.items (lists left.jobs.items) turns
         now.left.found.items (lists now.left.jobs.items)) }
 {
+    runs_follow_one_another();
+    let before = RunProgress::begun(alloc, left)?;
+    let went = run_on_boards(alloc, workers, runner, before, turns, most)?;
+    Ok(went)
+}
+
+/// Goes on with a search on boards of at most 2^28 turns for so many workers, each of which the runner runs to its end,
+/// until no job is left or the turns that are allowed are used. What it finds comes behind what was found before, in
+/// whatever order that is. Err where no memory is left.
+pub fn run_on<R: Runner>(
+    alloc: Global,
+    workers: u32,
+    runner: &R,
+    before: RunProgress,
+    turns: Option<u64>,
+) -> Result<RunProgress, NoMemory>
+    requires goes_on { CanGoOn (R.searches runner.now) [] (lists before.left.jobs.items) }
+    requires some_workers { 1 ≤ workers }
+    requires few_workers { workers ≤ 64 }
+    requires may_run { (opening : _) → R.searches runner.now ≡ opening.problem → R.takes runner.now opening }
+    requires runs { (opening : _) (board : _) → R.gives runner.now opening board → IfOk board (IsRun opening) }
+    ensures { IfOk result (λ now. RunsOn (R.searches runner.now) before.left.found.items (lists before.left.jobs.items) turns
+        now.left.found.items (lists now.left.jobs.items)) }
+{
+    run_on_boards(alloc, workers, runner, before, turns, BOARD_TURNS)
+}
+
+// The same on boards of at most so many turns.
+fn run_on_boards<R: Runner>(
+    alloc: Global,
+    workers: u32,
+    runner: &R,
+    before: RunProgress,
+    turns: Option<u64>,
+    most: u64,
+) -> Result<RunProgress, NoMemory>
+    requires some { 0 < most }
+    requires goes_on { CanGoOn (R.searches runner.now) [] (lists before.left.jobs.items) }
+    requires some_workers { 1 ≤ workers }
+    requires few_workers { workers ≤ 64 }
+    requires may_run { (opening : _) → R.searches runner.now ≡ opening.problem → R.takes runner.now opening }
+    requires runs { (opening : _) (board : _) → R.gives runner.now opening board → IfOk board (IsRun opening) }
+    ensures { IfOk result (λ now. RunsOn (R.searches runner.now) before.left.found.items (lists before.left.jobs.items) turns
+        now.left.found.items (lists now.left.jobs.items)) }
+{
     partitions_follow_one_another();
     sizes_are_sums();
     let _ = runner.problem().stage();
-    let mut found = left.found;
-    let mut jobs = left.jobs;
-    let mut handed = Vec::new(alloc);
-    handed.push(found.len() as u64)?;
+    let RunProgress { left, mut handed } = before;
+    let Remaining {
+        mut found,
+        mut jobs,
+    } = left;
     let mut allowed = turns;
     while !is_over(&jobs, allowed) {
         let ran = run_board(alloc, workers, runner, jobs, granted(allowed, most))?;
@@ -70,7 +128,7 @@ pub fn run_boards<R: Runner>(
 }
 
 // Moves what a board found behind what was found before. Where that is nothing, its list is taken as it is.
-pub(crate) fn put_behind(found: &mut Vec<Calling>, mut more: Vec<Calling>) -> Result<(), NoMemory>
+fn put_behind(found: &mut Vec<Calling>, mut more: Vec<Calling>) -> Result<(), NoMemory>
     ensures { OnOk result (found.new.items ≡ found.old.items ++ more.items) }
 {
     if found.is_empty() {

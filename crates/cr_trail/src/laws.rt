@@ -1,6 +1,6 @@
 //! Laws of trails. Each is the contract of a function that does nothing.
 
-ghost use Rattle.std.specs.Prelude.{◌≡◌, ℕ, ◌+◌, ◌*◌, ◌^◌, ◌<◌, ◌≤◌, List, [], Result, length, take, All};
+ghost use Rattle.std.specs.Prelude.{◌≡◌, ℕ, ◌+◌, ◌*◌, ◌^◌, ◌<◌, ◌≤◌, List, [], Option, Some, Result, length, take, All};
 ghost use Rattle.cr_model.specs.Problems.{ProblemParts};
 ghost use Rattle.cr_model.specs.Books.{IsBook};
 ghost use Rattle.cr_model.specs.Checkpoints.{CanGoOn};
@@ -9,11 +9,12 @@ ghost use Rattle.cr_store.specs.Blocks.{blocks, IsBody};
 ghost use Rattle.cr_store.specs.Chains.{IsChain, last_text};
 ghost use Rattle.cr_trail.specs.Lasts.{IsLast};
 ghost use Rattle.cr_trail.specs.Cuts.{TellsLastWhole};
-ghost use Rattle.cr_trail.specs.Runs.{size_of_jobs};
+ghost use Rattle.cr_trail.specs.Runs.{size_of_jobs, KeepsTo, RunsTo, RunsOn, turns_after};
 ghost use Rattle.cr_trail.specs.Trails.{Says, IsTrailFrom, LeavesNone, IsTrail};
 ghost use Rattle.cr_trail.specs.Taken.{IsTakenFrom, AreTaken};
 ghost use Rattle.cr_trail.specs.declared.last.TrailFault.{TrailFault};
 
+use cr_board::laws::partitions_follow_one_another;
 use cr_model::laws::sizes_are_sums;
 use cr_store::block_laws::each_place_has_one_answer;
 use cr_store::laws::{
@@ -75,4 +76,23 @@ pub fn what_is_left_of_a_trail_has_the_book()
 {
     a_cut_trail_has_its_last_whole_checkpoint();
     what_covers_the_same_has_one_book();
+}
+
+/// What a run found behind what was found before, and left, is where a search goes to from there (`begun`), and a search
+/// can go on from what a run left (`on`). A run of so many turns, no more than are allowed, is a run of all that are
+/// allowed where it leaves no job (`over`); and where it leaves some, so is it with a run behind it by the rest of the
+/// turns (`more`).
+pub fn runs_follow_one_another()
+    ensures begun { (p : ProblemParts) (found : List (List ℕ)) (jobs : List (List (List ℕ))) (turns : Option ℕ) (now : List (List ℕ)) (left : List (List (List ℕ)))
+        → CanGoOn p found jobs → RunsOn p found jobs turns now left → RunsTo p found jobs turns now left }
+    ensures on { (p : ProblemParts) (found : List (List ℕ)) (jobs : List (List (List ℕ))) (turns : Option ℕ) (now : List (List ℕ)) (left : List (List (List ℕ)))
+        → RunsOn p found jobs turns now left → CanGoOn p [] left }
+    ensures over { (p : ProblemParts) (found : List (List ℕ)) (jobs : List (List (List ℕ))) (turns : Option ℕ) (first : ℕ) (now : List (List ℕ)) (left : List (List (List ℕ)))
+        → RunsOn p found jobs (Some first) now left → KeepsTo turns first → left ≡ [] → RunsOn p found jobs turns now left }
+    ensures more { (p : ProblemParts) (found : List (List ℕ)) (jobs : List (List (List ℕ))) (turns : Option ℕ) (first : ℕ) (now : List (List ℕ)) (left : List (List (List ℕ)))
+        (later : List (List ℕ)) (rest : List (List (List ℕ)))
+        → RunsOn p found jobs (Some first) now left → KeepsTo turns first → (left ≡ [] → ⊥)
+        → RunsOn p now left (turns_after turns first) later rest → RunsOn p found jobs turns later rest }
+{
+    partitions_follow_one_another();
 }

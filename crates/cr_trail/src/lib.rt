@@ -5,7 +5,8 @@
 //!   end. [`TrailEnd`] says how that ended.
 //! - [`last_block`]: where the last whole body stands in what is left of such a text, and how many bytes it has, or why
 //!   there is none ([`TrailFault`]). It takes no memory.
-//! - [`run_boards`]: a search on boards that are opened one after another, with a trail or without.
+//! - [`run_boards`]: a search on boards that are opened one after another, with a trail or without. [`run_on`]: the same
+//!   from where another run left it ([`RunProgress`]), with what was found before, in whatever order that is.
 //! - [`Runner`], [`ByCall`]: what runs a board to its end; one is made of a closure.
 //!
 //! ```rust
@@ -27,7 +28,7 @@ mod runner;
 mod tests;
 mod trail;
 
-pub use boards::{BOARD_TURNS, RunProgress, run_boards};
+pub use boards::{BOARD_TURNS, RunProgress, run_boards, run_on};
 pub use last::{TrailFault, last_block};
 pub use runner::{ByCall, Runner};
 pub use trail::{TrailEnd, run_trail};

@@ -12,9 +12,9 @@ ghost use Rattle.cr_store.specs.Blocks.{IsBody};
 ghost use Rattle.cr_model.specs.Texts.{IsNumber};
 ghost use Rattle.cr_store.specs.Written.{lists, IsTextOfLeft};
 ghost use Rattle.cr_trail.specs.Trails.{EndsTrail};
-ghost use Rattle.cr_trail.specs.Writing.{IsReady, IsReadyAfter, RunsOn, WritesBlock, end_of};
+ghost use Rattle.cr_trail.specs.Writing.{IsReady, IsReadyAfter, WritesBlock, end_of};
 
-use crate::boards::{BOARD_TURNS, RunProgress, put_behind, run_boards};
+use crate::boards::{RunProgress, run_on};
 use crate::runner::Runner;
 use cr_board::laws::{each_touch_stands_once, partitions_follow_one_another};
 use cr_book::BookPieces;
@@ -166,9 +166,7 @@ fn first_ready<R: Runner>(
     )?;
     let mut pieces = Vec::with_capacity(alloc, 1)?;
     pieces.push(text)?;
-    let mut handed = Vec::with_capacity(alloc, 1)?;
-    handed.push(left.found.len() as u64)?;
-    let now = RunProgress { left, handed };
+    let now = RunProgress::begun(alloc, left)?;
     Ok(Ready { pieces, now })
 }
 
@@ -252,7 +250,7 @@ fn after_turns<T: AllocGlobal + Threads + Sync, R: Runner>(
     each_touch_stands_once();
     partitions_follow_one_another();
     what_is_sorted_is_the_book();
-    let RunProgress { left, handed } = run_on(rt.alloc(), workers, runner, now, every)?;
+    let RunProgress { left, handed } = run_on(rt.alloc(), workers, runner, now, Some(every))?;
     let Remaining { found, jobs } = left;
     let BookPieces { pieces, spent } = checkpoint_pieces(
         rt,
@@ -267,39 +265,4 @@ fn after_turns<T: AllocGlobal + Threads + Sync, R: Runner>(
     let left = Remaining { found: spent, jobs };
     let now = RunProgress { left, handed };
     Ok(Ready { pieces, now })
-}
-
-// Goes on with a search for so many turns, or until no job is left. What it finds comes behind what was found before, in
-// whatever order that is.
-fn run_on<R: Runner>(
-    alloc: Global,
-    workers: u32,
-    runner: &R,
-    before: RunProgress,
-    every: u64,
-) -> Result<RunProgress, NoMemory>
-    requires goes_on { CanGoOn (R.searches runner.now) [] (lists before.left.jobs.items) }
-    requires some_workers { 1 ≤ workers }
-    requires few_workers { workers ≤ 64 }
-    requires may_run { (opening : _) → R.searches runner.now ≡ opening.problem → R.takes runner.now opening }
-    requires runs { (opening : _) (board : _) → R.gives runner.now opening board → IfOk board (IsRun opening) }
-    ensures { IfOk result (λ now. RunsOn (R.searches runner.now) before.left.found.items (lists before.left.jobs.items) every
-        now.left.found.items (lists now.left.jobs.items)) }
-{
-    let RunProgress { left, mut handed } = before;
-    let Remaining { mut found, jobs } = left;
-    let rest = Remaining {
-        found: Vec::new(alloc),
-        jobs,
-    };
-    let went = run_boards(alloc, workers, runner, rest, Some(every), BOARD_TURNS)?;
-    let RunProgress {
-        left,
-        handed: mut more,
-    } = went;
-    let Remaining { found: new, jobs } = left;
-    put_behind(&mut found, new)?;
-    handed.append(&mut more)?;
-    let left = Remaining { found, jobs };
-    Ok(RunProgress { left, handed })
 }

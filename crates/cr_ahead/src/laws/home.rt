@@ -1,4 +1,4 @@
-//! Ways home, and the nodes that cannot come to what a query asks. No search uses these laws yet.
+//! Ways home, and the nodes that cannot come to what a query asks.
 
 ghost use Rattle.std.specs.Prelude.{◌≡◌, ◌≢◌, ℕ, ◌*◌, ◌<◌, ◌≤◌, ◌↔◌, Bool, true, pos, ◌≤ℤ◌, List, ◌++◌, All};
 ghost use Rattle.cr_row.specs.Rows.{rounds};

@@ -1,5 +1,4 @@
-//! Moves from lead head to lead head of a problem: what a table of them answers says of whole touches. No search uses
-//! these laws yet.
+//! Moves from lead head to lead head of a problem: what a table of them answers says of whole touches.
 
 ghost use Rattle.std.specs.Prelude.{◌≡◌, ℕ, ◌+◌, ◌-◌, ◌*◌, ◌≤◌, ◌↔◌, List, [], get_or, Option, None, IsNone};
 ghost use Rattle.cr_model.specs.declared.query.Cell.{Cell};

@@ -16,12 +16,19 @@ pub fn proposed_cover(alloc: Global, made: &LeadNumbers) -> Result<Vec<u32>, Sto
     let rows = narrow(made.rows.len() as usize)?;
     let holders = Holders::of(alloc, made)?;
     let mut seen = Vec::from_elem(alloc, 0, rows as usize)?;
-    let mut cover = Vec::with_capacity(alloc, rows as usize)?;
+    let mut cover = Vec::from_elem(alloc, NONE, rows as usize)?;
     for row in 0..rows {
-        cover.push(holders.best_for(row, made, &mut seen))?;
+        if at(&cover, row) == NONE {
+            let best = holders.best_for(row, made, &mut seen);
+            put(&mut cover, row, best);
+            holders.cover_alike(row, best, made, &seen, &mut cover);
+        }
     }
     Ok(cover)
 }
+
+// In place of the row that covers one, before it is found.
+const NONE: u32 = u32::MAX;
 
 // The leads in which rows stand.
 #[derive(Drop)]
@@ -71,6 +78,25 @@ impl Holders {
             see_rows(lead, place, place == start, seen);
         }
         self.best_among(numbers_of(made, at(&self.leads, start)), row, end, seen)
+    }
+
+    // Has the rows that stand in just the leads in which one stands covered as that one is, after it was looked for.
+    fn cover_alike(&self, row: u32, best: u32, made: &LeadNumbers, seen: &[u32], cover: &mut [u32])
+        requires { All (IsHeld (length made.now.numbers.items)) made.now.records.items }
+    {
+        let start = at(&self.starts, row);
+        let end = at(&self.starts, row.wrapping_add(1));
+        if row == 0 || start >= end {
+            return;
+        }
+        for other in numbers_of(made, at(&self.leads, start)) {
+            if at(cover, *other) == NONE
+                && at(seen, *other) == end
+                && self.count(*other) == self.count(row)
+            {
+                put(cover, *other, best);
+            }
+        }
     }
 
     // The best of the rows that were seen up to the end.

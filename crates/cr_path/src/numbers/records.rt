@@ -2,7 +2,7 @@
 
 ghost use Rattle.std.specs.Prelude.{◌≡◌, ◌*◌, ◌<◌, false, length, get_or, map, All, IfOk};
 ghost use Rattle.cr_path.specs.PathLimits.{false_leads};
-ghost use Rattle.cr_path.specs.Numbers.{comes_round};
+ghost use Rattle.cr_path.specs.Numbers.{comes_round, next_head};
 ghost use Rattle.cr_path.specs.Representatives.{IsLike, AreLike};
 
 use crate::numbers::growing::narrow;
@@ -50,6 +50,18 @@ pub fn records_of(
         leads.push(record_of(lead, steps, round_heads)?)?;
     }
     Ok(leads)
+}
+
+/// Of each lead, in the order of the records, the number of the head after it, where each head has so many records.
+pub fn next_heads_of(alloc: Global, leads: &[LeadRecord], steps: u8) -> Result<Vec<u32>, NoMemory>
+    requires { 0 < steps }
+    ensures { IfOk result (λ next. next.items ≡ map (next_head steps) leads.now) }
+{
+    let mut next = Vec::with_capacity(alloc, leads.len())?;
+    for lead in leads {
+        next.push(lead.next / u32::from(steps))?;
+    }
+    Ok(next)
 }
 
 // The record of a lead.

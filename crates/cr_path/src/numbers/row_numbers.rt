@@ -14,7 +14,7 @@ use std::alloc::Global;
 const WIDTHS: [usize; 11] = [2, 3, 4, 6, 8, 12, 16, 24, 32, 64, 128];
 
 // The most numbers of all leads.
-const MOST_NUMBERS: usize = 1 << 24;
+const MOST_NUMBERS: usize = 1 << 26;
 
 /// So many numbers of representative rows for each lead, those of the first lead first.
 #[derive(Drop)]
@@ -26,7 +26,7 @@ pub struct RowNumbers {
 impl RowNumbers {
     /// Those of leads that were rung, by a cover of their rows and the representative ones. Each lead has as many as the
     /// width, which is the least that the one with most has room in, with its first one again where it has fewer.
-    /// TooMany where they are more than 16,777,216.
+    /// TooMany where they are more than 67,108,864.
     pub fn of(
         alloc: Global,
         made: &LeadNumbers,

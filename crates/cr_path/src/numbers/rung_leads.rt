@@ -14,10 +14,10 @@ use cr_row::Row;
 use cr_rowset::RowStack;
 use std::alloc::Global;
 
-// The most rows that are numbered.
-const MOST_ROWS: u32 = 1 << 20;
+// The most rows that are numbered, whatever is asked for: 10 bells have 3,628,800.
+const MOST_ROWS: u32 = 1 << 22;
 
-// The most changes of the shortest lead, rung from all heads. Often two of them make one row.
+// The most changes of the shortest lead, rung from all heads.
 const MOST_LEAD_ROWS: u32 = 2 * MOST_ROWS;
 
 /// What is known of the lead of a step that is rung from a head.
@@ -55,25 +55,45 @@ pub struct LeadNumbers {
 }
 
 impl LeadNumbers {
-    /// The numbers of all leads that are rung from heads to which leads lead from rounds. TooMany where the heads are
-    /// more than the most, or the rows more than are numbered.
-    pub fn of(alloc: Global, leads: &Leads, most_heads: u64) -> Result<LeadNumbers, Stopped>
+    /// The numbers of all leads that are rung from heads to which leads lead from rounds. TooMany where the heads or the
+    /// rows are more than the most.
+    pub fn of(
+        alloc: Global,
+        leads: &Leads,
+        most_heads: u64,
+        row_limit: u32,
+    ) -> Result<LeadNumbers, Stopped>
         ensures { IfOk result (λ made. IsRung leads.now (numbers_in leads.now made)) }
     {
-        let most_heads = most_heads.min(u64::from(MOST_LEAD_ROWS) / leads.shortest()) as u32;
+        let row_limit = row_limit.min(MOST_ROWS);
+        let most_heads = head_limit(most_heads, row_limit, leads.shortest());
         let heads = all_heads(alloc, leads, most_heads)?;
-        let mut made = begin(alloc, leads, heads)?;
+        let mut made = begin(alloc, leads, heads, row_limit)?;
         let mut place = 0;
         while place < made.heads.len() {
-            number_leads(alloc, &mut made, leads, place, most_heads)?;
+            number_leads(alloc, &mut made, leads, place, most_heads, row_limit)?;
             place += 1;
         }
         Ok(made)
     }
 }
 
+// The most heads, of which the shortest leads have no more than twice the most rows: often two leads make one row.
+fn head_limit(most_heads: u64, row_limit: u32, shortest: u64) -> u32
+    requires rows { row_limit ≤ MOST_ROWS }
+    requires some { 1 ≤ shortest }
+    ensures { result ≤ MOST_LEAD_ROWS }
+{
+    most_heads.min(2 * u64::from(row_limit) / shortest) as u32
+}
+
 // With these heads, before any lead is rung. Rounds is the first row.
-fn begin(alloc: Global, leads: &Leads, heads: RowStack) -> Result<LeadNumbers, Stopped>
+fn begin(
+    alloc: Global,
+    leads: &Leads,
+    heads: RowStack,
+    row_limit: u32,
+) -> Result<LeadNumbers, Stopped>
     requires are { AreHeads leads.now heads.rows }
     requires few { length heads.rows ≤ MOST_LEAD_ROWS }
     ensures begun { IfOk result (λ made. IsBegun leads.now (numbers_in leads.now made) 0) }
@@ -82,8 +102,8 @@ fn begin(alloc: Global, leads: &Leads, heads: RowStack) -> Result<LeadNumbers, S
     let number_of_heads = heads.len() as usize;
     // The stack gets more room where it needs some.
     let room = 1 + heads.len() * leads.shortest();
-    let mut rows = RowStack::with_room(alloc, room.min(u64::from(MOST_ROWS)))?;
-    number(alloc, &mut rows, leads.rounds(), MOST_ROWS)?;
+    let mut rows = RowStack::with_room(alloc, room.min(u64::from(row_limit)))?;
+    number(alloc, &mut rows, leads.rounds(), row_limit)?;
     // It tells that the rows differ.
     let _ = rows.len();
     Ok(LeadNumbers {
@@ -112,6 +132,7 @@ fn number_leads(
     leads: &Leads,
     place: u64,
     most_heads: u32,
+    row_limit: u32,
 ) -> Result<(), Stopped>
     requires begun { IsBegun leads.now (numbers_in leads.now made.old) (place * length leads.now.leads) }
     requires place { place < length made.old.heads.rows }
@@ -121,7 +142,7 @@ fn number_leads(
     ensures few { IfOk result (λ _. length made.new.heads.rows ≤ most_heads) }
 {
     for step in 0..leads.count() {
-        number_lead(alloc, made, leads, place, step, most_heads)?;
+        number_lead(alloc, made, leads, place, step, most_heads, row_limit)?;
     }
     Ok(())
 }
@@ -134,6 +155,7 @@ fn number_lead(
     place: u64,
     step: u8,
     most_heads: u32,
+    row_limit: u32,
 ) -> Result<(), Stopped>
     requires begun { IsBegun leads.now (numbers_in leads.now made.old) (place * length leads.now.leads + step) }
     requires place { place < length made.old.heads.rows }
@@ -151,6 +173,7 @@ fn number_lead(
         &mut made.numbers,
         head,
         leads.rows_of(step),
+        row_limit,
     )?;
     // It tells that the rows differ.
     let _ = made.rows.len();
@@ -174,12 +197,13 @@ fn number_rows(
     numbers: &mut Vec<u32>,
     head: Row,
     lead: &[Row],
+    most: u32,
 ) -> Result<(), Stopped>
     requires { All (λ row. length row ≡ length head) lead.now }
     ensures { IfOk result (λ _. AreNumbered rows.old.rows numbers.old.items (map (product head) lead.now) rows.new.rows numbers.new.items) }
 {
     for row in lead {
-        numbers.push(number(alloc, rows, head.times(row), MOST_ROWS)?)?;
+        numbers.push(number(alloc, rows, head.times(row), most)?)?;
     }
     Ok(())
 }

@@ -2,18 +2,19 @@
 
 ghost use Rattle.std.specs.Prelude.{◌≡◌, ◌+◌, ◌*◌, ◌<◌, ◌≤◌, ◌↔◌, ℕ, List, IsTrue, false, [], length, get_or, take, drop, map, IfOk, IfSome};
 ghost use Rattle.cr_leads.specs.Tables.{lead_table};
+ghost use Rattle.cr_model.specs.Problems.{ProblemParts};
 ghost use Rattle.cr_model.specs.Limits.{most_patterns};
 ghost use Rattle.cr_model.specs.Sizes.{most_rows};
 ghost use Rattle.cr_reach.specs.Tables.{reach_table};
 ghost use Rattle.cr_model.specs.Callings.{HasSteps};
 ghost use Rattle.cr_path.specs.Best.{IsBest};
-ghost use Rattle.cr_path.specs.Numbers.{numbers_of, IsBase, StartsHead, IsNumbered};
+ghost use Rattle.cr_path.specs.Numbers.{numbers_of, IsBase, StartsHead, IsNumbered, AreNextHeads};
 ghost use Rattle.cr_model.specs.Limits.{most_leads};
 
 use crate::numbers::covers::cover_of;
 use crate::numbers::leads::Leads;
 use crate::numbers::pattern_rows::PatternRows;
-use crate::numbers::records::{records_of, round_heads_of, twice_of};
+use crate::numbers::records::{next_heads_of, records_of, round_heads_of, twice_of};
 use crate::numbers::representatives::Representatives;
 use crate::numbers::rotated_patterns::is_best;
 use crate::numbers::row_numbers::RowNumbers;
@@ -94,25 +95,60 @@ impl Model for NumberTable {
 
 impl NumberTable {
     /// The numbers of a problem. None where there are too many of them: more heads that leads reach than the most, or
-    /// than 2,097,152 over the changes of the shortest lead, or more than 1,048,576 rows, or more than 16,777,216
-    /// numbers (64 MiB), of which each lead has as many as the least width that has room for the lead with most representative
-    /// rows, or so many patterns that their numbers would take more than 16 MiB. Err where no memory is left.
+    /// than twice the most rows over the changes of the shortest lead, or more rows than the most, or than 4,194,304, or
+    /// more than 67,108,864 numbers (256 MiB), of which each lead has as many as the least width that has room for the lead
+    /// with most representative rows, or so many patterns that their numbers would take more than 16 MiB. Err where no
+    /// memory is left.
     pub fn new(
         alloc: Global,
         problem: &Problem,
         leads: &LeadTable,
         reach: &ReachTable,
         most_heads: u64,
+        row_limit: u32,
     ) -> Result<Option<NumberTable>, NoMemory>
         requires leads { leads.now ≡ lead_table problem.now }
         requires reach { reach.now ≡ reach_table problem.now most_rows }
         ensures { IfOk result (λ table. IfSome table (λ t. IsNumbered problem.now t)) }
     {
         let given = Leads::new(alloc, problem, leads, reach)?;
-        match table_of(alloc, &given, most_heads) {
+        match table_of(alloc, &given, most_heads, row_limit) {
             Ok(table) => Ok(Some(table)),
             Err(Stopped::TooMany) => Ok(None),
             Err(Stopped::NoMemory) => Err(NoMemory),
+        }
+    }
+
+    /// The lead heads, each at its number.
+    pub fn heads(&self) -> &[Row]
+        ensures { result.now ≡ self.now.heads }
+    {
+        &self.heads
+    }
+
+    /// By head and step, head after head, the number of the head that the step leads to. Err where no memory is left.
+    pub fn next_heads(&self, alloc: Global) -> Result<Vec<u32>, NoMemory>
+        ensures { IfOk result (λ next. (p : ProblemParts) → IsNumbered p self.now → AreNextHeads p self.now.heads next.items) }
+    {
+        next_heads_of(alloc, &self.records, self.steps)
+    }
+
+    /// The number of the head whose records start here.
+    #[inline(always)]
+    pub(crate) fn number_of(&self, base: u32) -> u32
+        ensures { (row : List ℕ) → IsBase self.now row base → (result < length self.now.heads) × (get_or self.now.heads result [] ≡ row) }
+    {
+        base / u32::from(self.steps)
+    }
+
+    /// Whether the head with this number is this row.
+    #[inline(always)]
+    pub(crate) fn has_head(&self, number: u32, row: &Row) -> bool
+        ensures { IsTrue result ↔ ((number < length self.now.heads) × (get_or self.now.heads number [] ≡ row.now)) }
+    {
+        match self.heads.get(number as usize) {
+            Some(head) => *head == *row,
+            None => false,
         }
     }
 
@@ -230,11 +266,16 @@ impl NumberTable {
     }
 }
 
-// The table of leads that are rung from at most so many heads.
-fn table_of(alloc: Global, leads: &Leads, most_heads: u64) -> Result<NumberTable, Stopped>
+// The table of leads that are rung from at most so many heads and have at most so many rows.
+fn table_of(
+    alloc: Global,
+    leads: &Leads,
+    most_heads: u64,
+    row_limit: u32,
+) -> Result<NumberTable, Stopped>
     ensures { IfOk result (λ table. IsNumbered leads.now table) }
 {
-    let made = LeadNumbers::of(alloc, leads, most_heads)?;
+    let made = LeadNumbers::of(alloc, leads, most_heads, row_limit)?;
     let cover = cover_of(alloc, &made)?;
     let representatives = Representatives::of(alloc, &made.rows, &cover)?;
     let named = RowNumbers::of(alloc, &made, &cover, &representatives)?;

@@ -1,6 +1,6 @@
 //! The numbers of a problem, with their lists at hand.
 
-ghost use Rattle.std.specs.Prelude.{◌≡◌, ◌+◌, ◌*◌, ◌<◌, ◌≤◌, ℕ, List, length, get_or, false};
+ghost use Rattle.std.specs.Prelude.{◌≡◌, ◌+◌, ◌*◌, ◌<◌, ◌≤◌, ℕ, List, [], length, get_or, false};
 ghost use Rattle.cr_path.specs.Numbers.{numbers_of, IsBase, StartsHead};
 
 use crate::numbers::table::{LeadRecord, NumberTable, numbers_in};
@@ -86,6 +86,14 @@ impl<'a> BorrowedNumbers<'a> {
         ensures { (row : List ℕ) → IsBase self.now row base → result ≡ row }
     {
         self.table.head_at(base)
+    }
+
+    /// The number of the head whose records start here.
+    #[inline(always)]
+    pub fn number_of(&self, base: u32) -> u32
+        ensures { (row : List ℕ) → IsBase self.now row base → (result < length self.now.heads) × (get_or self.now.heads result [] ≡ row) }
+    {
+        self.table.number_of(base)
     }
 
     /// Whether the lead of a step has a row twice in itself.

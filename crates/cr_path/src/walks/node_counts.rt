@@ -1,11 +1,11 @@
 //! What is counted of a node, where the query asks for it.
 
-ghost use Rattle.std.specs.Prelude.{◌≡◌, ◌<◌, ◌↔◌, ℕ, List, true, false, not, nat_eq, [], length, IsTrue, IfOk, IfSome};
+ghost use Rattle.std.specs.Prelude.{◌≡◌, ◌<◌, ◌↔◌, ℕ, List, true, false, not, nat_eq, [], length, get_or, IsTrue, IfOk, IfSome};
 ghost use Rattle.cr_model.specs.OneTurn.{touch_of};
 ghost use Rattle.cr_model.specs.Problems.{ProblemParts};
 ghost use Rattle.cr_model.specs.Sizes.{child};
 ghost use Rattle.cr_query.specs.Meeting.{MeetsCounts, MeetsMethodCounts};
-ghost use Rattle.cr_query.specs.Meters.{parent, meter_from, is_hopeless_by_leads};
+ghost use Rattle.cr_query.specs.Meters.{parent, meter_from, item_numbers, is_hopeless_by_leads};
 ghost use Rattle.cr_path.specs.Counted.{AsksNothing, IsIdle, IsCounted, AreHopeless, CanCount};
 ghost use Rattle.cr_path.specs.Living.{is_hopeless};
 ghost use Rattle.cr_model.specs.Limits.{most_leads};
@@ -124,6 +124,19 @@ impl Counting {
         match &self.meter {
             Some(meter) => is_hopeless_now(meter),
             None => false,
+        }
+    }
+
+    /// How much the node has of the item at an index, as a meter says.
+    #[inline(always)]
+    pub fn item_number(&self, item: usize) -> u32
+        requires { IfSome self.now.meter (λ meter. item < length (item_numbers meter.problem meter.node)) }
+        ensures { (p : ProblemParts) (node : List ℕ) → IsCounted p node self.now → result ≡ get_or (item_numbers p node) item 0 }
+    {
+        match &self.meter {
+            Some(meter) => meter.item_number(item),
+            // Nothing is asked, so that there are no items.
+            None => 0,
         }
     }
 

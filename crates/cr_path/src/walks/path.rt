@@ -1,6 +1,6 @@
 //! The path of a walk: what is kept of a node of a problem whose lead heads and rows are numbered.
 
-ghost use Rattle.std.specs.Prelude.{◌≡◌, ◌+◌, ◌-◌, ◌<◌, ◌≤◌, ◌↔◌, ℕ, true, false, not, [], ◌∷◌, length, find, take, is_none, All, MatchBool, IsTrue, IfOk, IfNone, IfSome};
+ghost use Rattle.std.specs.Prelude.{◌≡◌, ◌+◌, ◌-◌, ◌<◌, ◌≤◌, ◌↔◌, ℕ, true, false, not, [], ◌∷◌, length, get_or, find, take, is_none, All, MatchBool, IsTrue, IfOk, IfNone, IsSome, IfSome};
 ghost use Rattle.std.specs.List.{range_with_len};
 ghost use Rattle.cr_row.specs.Rows.{rounds};
 ghost use Rattle.cr_model.specs.Callings.{rows_of, length_of, head_of, HasSteps};
@@ -12,7 +12,7 @@ ghost use Rattle.cr_model.specs.Sizes.{most_rows, child};
 ghost use Rattle.cr_model.specs.LeastRotations.{IsLeastRotation};
 ghost use Rattle.cr_leads.specs.Tables.{lead_table};
 ghost use Rattle.cr_query.specs.Meeting.{MeetsCounts, MeetsMethodCounts};
-ghost use Rattle.cr_query.specs.Meters.{is_hopeless_by_leads};
+ghost use Rattle.cr_query.specs.Meters.{item_numbers, is_hopeless_by_leads};
 ghost use Rattle.cr_path.specs.Counted.{AsksNothing, AreHopeless};
 ghost use Rattle.cr_path.specs.Ends.{final_step, IsEnd};
 ghost use Rattle.cr_path.specs.Living.{is_clean, is_cut, is_hopeless, is_live, IsFirst, IsFirstUncut};
@@ -184,6 +184,21 @@ impl<'a, const WIDTH: usize, const COUNTS: usize, const STEPS: usize> Path<
         self.numbers.head_at(self.ends.last().base)
     }
 
+    /// The number of the node's last row among the heads of a table, where it stands there at the number that the path
+    /// has for it, as it does in the path's own table. It takes no memory.
+    #[inline(always)]
+    pub fn head_number(&self, numbers: &NumberTable) -> Option<u32>
+        ensures is { IfSome result (λ number. (number < length numbers.now.heads) × (get_or numbers.now.heads number [] ≡ head_of self.now.problem self.now.node)) }
+        ensures own { numbers.now ≡ self.now.numbers → IsSome result }
+    {
+        let number = self.numbers.number_of(self.ends.last().base);
+        if numbers.has_head(number, &self.head()) {
+            Some(number)
+        } else {
+            None
+        }
+    }
+
     /// The number of rows of the node.
     #[inline(always)]
     pub fn length(&self) -> u64
@@ -246,6 +261,15 @@ impl<'a, const WIDTH: usize, const COUNTS: usize, const STEPS: usize> Path<
             × MeetsMethodCounts self.now.problem (touch_of self.now.problem self.now.node)) }
     {
         self.counting.meets_counts()
+    }
+
+    /// How much the node has of the item at an index, as a meter says.
+    #[inline(always)]
+    pub fn item_number(&self, item: usize) -> u32
+        requires { item < length (item_numbers self.now.problem self.now.node) }
+        ensures { result ≡ get_or (item_numbers self.now.problem self.now.node) item 0 }
+    {
+        self.counting.item_number(item)
     }
 
     // Whether no row of the node stands twice, and none is rounds.

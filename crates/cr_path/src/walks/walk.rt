@@ -1,6 +1,6 @@
 //! A walk through the nodes of a problem, by numbers.
 
-ghost use Rattle.std.specs.Prelude.{◌≡◌, ◌+◌, ◌-◌, ◌<◌, ◌≤◌, ◌↔◌, true, not, [], length, find, is_none, IsTrue, IfOk, IfNone, IfSome};
+ghost use Rattle.std.specs.Prelude.{◌≡◌, ◌+◌, ◌-◌, ◌<◌, ◌≤◌, ◌↔◌, true, not, [], length, get_or, find, is_none, IsTrue, IfOk, IfNone, IfSome};
 ghost use Rattle.std.specs.List.{range_with_len};
 ghost use Rattle.cr_row.specs.Rows.{rounds};
 ghost use Rattle.cr_model.specs.Callings.{rows_of, length_of, head_of, HasSteps};
@@ -12,6 +12,7 @@ ghost use Rattle.cr_model.specs.Sizes.{most_rows, child};
 ghost use Rattle.cr_model.specs.LeastRotations.{IsLeastRotation};
 ghost use Rattle.cr_leads.specs.Tables.{lead_table};
 ghost use Rattle.cr_query.specs.Meeting.{MeetsCounts, MeetsMethodCounts};
+ghost use Rattle.cr_query.specs.Meters.{item_numbers};
 ghost use Rattle.cr_path.specs.Counted.{AsksNothing};
 ghost use Rattle.cr_path.specs.Numbers.{IsNumbered};
 ghost use Rattle.cr_path.specs.Walks.{walk_from, room_of};
@@ -129,6 +130,15 @@ impl<'a, const WIDTH: usize, const COUNTS: usize, const STEPS: usize> NumberWalk
         self.path.head()
     }
 
+    /// The number of the node's last row among the heads of a table, where it stands there at the number that the walk
+    /// has for it, as it does in the walk's own table. It takes no memory.
+    #[inline(always)]
+    pub fn head_number(&self, numbers: &NumberTable) -> Option<u32>
+        ensures { IfSome result (λ number. (number < length numbers.now.heads) × (get_or numbers.now.heads number [] ≡ head_of self.now.problem self.now.node)) }
+    {
+        self.path.head_number(numbers)
+    }
+
     /// The number of rows of the node.
     #[inline(always)]
     pub fn length(&self) -> u64
@@ -182,5 +192,14 @@ impl<'a, const WIDTH: usize, const COUNTS: usize, const STEPS: usize> NumberWalk
             × MeetsMethodCounts self.now.problem (touch_of self.now.problem self.now.node)) }
     {
         self.path.meets_counts()
+    }
+
+    /// How much the node has of the item at an index, as a meter says.
+    #[inline(always)]
+    pub fn item_number(&self, item: usize) -> u32
+        requires { item < length (item_numbers self.now.problem self.now.node) }
+        ensures { result ≡ get_or (item_numbers self.now.problem self.now.node) item 0 }
+    {
+        self.path.item_number(item)
     }
 }

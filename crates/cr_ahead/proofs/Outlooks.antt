@@ -1,0 +1,111 @@
+-- What an outlook says of a node.
+use Rattle.std.proofs.Common.{◌≡◌, ℕ, zero, suc, ◌*◌, ◌<◌, Bool, true, false, ℤ, List, [], ◌∷◌, length, get_or, map, All, Option, Some, None, is_none, IfSome, Decides, inl, inr, refl, sym, ap, ◌∙◌, subst, arith, rules}
+use Rattle.std.specs.List.{AllZip, list_any}
+use Rattle.std.proofs.lemmas.Bool.{or_right, true≢false}
+use Rattle.std.proofs.lemmas.List.{get_or-map, get_or_default}
+use Rattle.std.proofs.lemmas.List.Folds.{list_any_at}
+use Rattle.std.proofs.lemmas.List.Elements.{All-nil, All-cons}
+use Rattle.cr_model.specs.Problems.{ProblemParts}
+use Rattle.cr_model.specs.Callings.{length_of}
+use Rattle.cr_model.specs.Sound.{IsSound}
+use Rattle.cr_model.specs.Dead.{parts_of}
+use Rattle.cr_ahead.specs.declared.gains.Gains.{Gains}
+use Rattle.cr_ahead.specs.declared.outlook.ItemTable.{ItemTable}
+use Rattle.cr_ahead.specs.Ways.{Tells}
+use Rattle.cr_ahead.specs.Tables.{AheadParts, answer_at}
+use Rattle.cr_ahead.specs.Home.{IsWayHome, each_way_home}
+use Rattle.cr_ahead.specs.Items.{Item, number_with, CannotMeet, cannot_meet}
+use Rattle.cr_ahead.specs.LeadMoves.{IsPlaceOf, of_touches, refuses}
+use Rattle.cr_ahead.specs.Exact.{exact_items, CannotComeBy, cannot_come_by}
+use Rattle.cr_ahead.specs.Outlooks.{IsHomeTable, IsTableOf, IsItemTable, AreItemTables, no_item, none_at, is_refused_at, IsSomeRefused}
+use Rattle.cr_ahead.proofs.Exact.{exact_decided}
+use Rattle.cr_ahead.proofs.Home.{item_decided}
+use Rattle.cr_ahead.proofs.LeadMoves.{refused}
+
+-- a test of what does not hold
+false_is : {P : Type 0} (b : Bool) → Decides b P → (P → ⊥) → false ≡ b
+false_is false decided refuted = refl
+false_is true decided refuted = absurd (refuted (decided.0 refl))
+
+-- lists element by element
+zip_at : {A B : Type 0} (R : A → B → Type 0) (xs : List A) (ys : List B) (i : ℕ) (d : A) (e : B) → AllZip R xs ys → i < length xs → R (get_or xs i d) (get_or ys i e)
+zip_at R [] [] i d e all inside = absurd (omega arith)
+zip_at R [] (y ∷ ys) i d e all inside = absurd all
+zip_at R (x ∷ xs) [] i d e all inside = absurd all
+zip_at R (x ∷ xs) (y ∷ ys) zero d e all inside = all.0
+zip_at R (x ∷ xs) (y ∷ ys) (suc i) d e all inside = zip_at R xs ys i d e all.1 (omega arith)
+
+pub zip_length : {A B : Type 0} (R : A → B → Type 0) (xs : List A) (ys : List B) → AllZip R xs ys → length ys ≡ length xs
+zip_length R [] [] all = refl
+zip_length R [] (y ∷ ys) all = absurd all
+zip_length R (x ∷ xs) [] all = absurd all
+zip_length R (x ∷ xs) (y ∷ ys) all = ap suc (zip_length R xs ys all.1)
+
+-- all tables have as many places
+pub all_places : (p : ProblemParts) (heads : List (List ℕ)) (unit : ℕ) (items : List Item) (tables : List ItemTable) → AreItemTables p heads unit items tables
+    → All (λ of_item. of_item.table.places ≡ length heads) tables
+all_places p heads unit [] [] all = All-nil (λ of_item. of_item.table.places ≡ length heads)
+all_places p heads unit [] (t ∷ ts) all = absurd all
+all_places p heads unit (item ∷ items) [] all = absurd all
+all_places p heads unit (item ∷ items) (t ∷ ts) all =
+    All-cons (λ of_item. of_item.table.places ≡ length heads) t ts all.0.table.places (all_places p heads unit items ts all.1)
+
+module _ (p : ProblemParts) (heads : List (List ℕ)) (unit place long : ℕ) (node : List ℕ) (sound : IsSound p) (at : IsPlaceOf p heads place node)
+    (is : length_of p node ≡ unit * long) where
+  -- where there are no items
+  home_by : (gains : Option Gains) → exact_items p ≡ [] → Tells (IsWayHome p node) (number_with p node no_item) (of_touches (parts_of p) 0 gains)
+      → is_none gains ≡ cannot_come_by p node
+  home_by None none told = sym ((exact_decided p node sound).1 (inl told))
+  home_by (Some g) none told = false_is (cannot_come_by p node) (exact_decided p node sound) cannot_be
+    where
+      cannot_be : CannotComeBy p node → ⊥
+      cannot_be cannot = elim cannot [
+        | inl nowhere ↦ nowhere told.0.one told.0.holds
+        | inr any ↦ let inside : any.0 < length (exact_items p) = any.2 in let empty = ap length none in absurd (omega (arith, inside, empty))
+      ]
+
+  pub home_says : (table : AheadParts) → exact_items p ≡ [] → IsTableOf p heads unit no_item table → is_none (answer_at table place long) ≡ cannot_come_by p node
+  home_says table none of_table = home_by (answer_at table place long) none (of_table.tells place long node at is)
+
+  -- where there are some
+  module _ (parts : ℕ) (tables : List ItemTable) (so_far : List ℕ) (same : parts ≡ parts_of p) (are : AreItemTables p heads unit (exact_items p) tables)
+      (has : so_far ≡ map (λ item. item.number_of node) (exact_items p)) where
+    refused_at : (i : ℕ) → i < length (exact_items p) → is_refused_at parts place long tables so_far i ≡ cannot_meet p node (get_or (exact_items p) i no_item)
+    refused_at i inside =
+        let item : Item = get_or (exact_items p) i no_item in
+        let t : ItemTable = get_or tables i none_at in
+        let of_item : IsItemTable p heads unit item t = zip_at (IsItemTable p heads unit) (exact_items p) tables i no_item none_at are inside in
+        let number : get_or so_far i 0 ≡ item.number_of node =
+        ap (λ (numbers : List ℕ). get_or numbers i 0) has ∙ get_or-map (λ some. some.number_of node) (exact_items p) i no_item 0 inside in
+        ap (λ (n : ℕ). refuses t.min t.max (of_touches parts n (answer_at t.table place long))) number
+        ∙ ap (λ (n : ℕ). refuses t.min t.max (of_touches n (item.number_of node) (answer_at t.table place long))) same
+        ∙ ap (λ (z : ℤ). refuses z t.max (of_touches (parts_of p) (item.number_of node) (answer_at t.table place long))) of_item.min
+        ∙ ap (λ (z : ℤ). refuses item.min z (of_touches (parts_of p) (item.number_of node) (answer_at t.table place long))) of_item.max
+        ∙ sym (refused p node item (of_touches (parts_of p) (item.number_of node) (answer_at t.table place long)) sound (of_item.table.tells place long node at is))
+
+    pub items_say : (result : Bool) → 0 < length (exact_items p) → IsSomeRefused parts place long tables so_far result → result ≡ cannot_come_by p node
+    items_say true some one =
+        let inside : one.0 < length (exact_items p) = omega (arith, one.1, zip_length (IsItemTable p heads unit) (exact_items p) tables are) in
+        sym (or_right (each_way_home p node (λ way. false)) (list_any (cannot_meet p node) (exact_items p))
+        (list_any_at (cannot_meet p node) (exact_items p) one.0 no_item inside (sym (refused_at one.0 inside) ∙ one.2)))
+    items_say false some none = false_is (cannot_come_by p node) (exact_decided p node sound) cannot_be
+      where
+        each : (i : ℕ) → i < length (exact_items p) → CannotMeet p node (get_or (exact_items p) i no_item) → ⊥
+        each i inside cannot =
+            let within : i < length tables = omega (arith, inside, zip_length (IsItemTable p heads unit) (exact_items p) tables are) in
+            true≢false (sym ((item_decided p node (get_or (exact_items p) i no_item) sound).1 cannot) ∙ sym (refused_at i inside) ∙ none i within)
+
+        cannot_be : CannotComeBy p node → ⊥
+        cannot_be cannot = elim cannot [
+          | inl nowhere ↦ each 0 some (inl (λ way home. absurd (nowhere way home)))
+          | inr any ↦
+              let inside : any.0 < length (exact_items p) = any.2 in
+              let here : any.1 ≡ get_or (exact_items p) any.0 no_item = sym any.3 ∙ get_or_default (exact_items p) any.0 any.1 no_item inside in
+              each any.0 inside (subst (CannotMeet p node) here any.4)
+        ]
+
+-- what an outlook keeps
+pub home_places : (p : ProblemParts) (heads : List (List ℕ)) (unit : ℕ) (home : Option AheadParts) → IsHomeTable p heads unit home
+    → IfSome home (λ table. table.places ≡ length heads)
+home_places p heads unit None is = search rules
+home_places p heads unit (Some table) is = is.1.places

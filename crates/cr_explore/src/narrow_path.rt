@@ -1,0 +1,179 @@
+//! A path by numbers that knows what can still come.
+
+ghost use Rattle.std.specs.Prelude.{◌≡◌, ◌<◌, ◌≤◌, true, [], length, take, IfOk};
+ghost use Rattle.cr_ahead.specs.Outlooks.{IsOutlook};
+ghost use Rattle.cr_leads.specs.Tables.{lead_table};
+ghost use Rattle.cr_model.specs.Dead.{HasNoneBelow};
+ghost use Rattle.cr_path.specs.Counted.{AsksNothing};
+ghost use Rattle.cr_path.specs.Numbers.{IsNumbered};
+ghost use Rattle.cr_query.specs.Meters.{item_numbers};
+
+use crate::number_path::NumberPath;
+use crate::path::Path;
+use cr_ahead::Outlook;
+use cr_ahead::laws::exact::nothing_is_kept_below_a_node_that_cannot_come_by_exact_items;
+use cr_leads::LeadTable;
+use cr_model::Problem;
+use cr_path::{NumberTable, NumberWalk};
+use cr_row::NoMemory;
+use std::alloc::Global;
+use std::marker::Model;
+
+/// A [`NumberPath`] that asks an outlook whether its node can still come to what the query asks: below one that cannot
+/// nothing is kept.
+///
+/// It is seen as the problem, the node and the step from which on the node's children are not tried yet.
+#[derive(Drop)]
+pub struct NarrowPath<'a, const WIDTH: usize, const COUNTS: usize, const STEPS: usize> {
+    path: NumberPath<'a, WIDTH, COUNTS, STEPS>,
+    numbers: &'a NumberTable,
+    outlook: &'a Outlook,
+    // Room for what the node has of each item of the outlook.
+    so_far: Vec<u32>,
+}
+
+impl<'a, const WIDTH: usize, const COUNTS: usize, const STEPS: usize> Model
+    for NarrowPath<'a, WIDTH, COUNTS, STEPS> {
+    ghost use Rattle.cr_path.specs.Walks.{WalkParts};
+    ghost use Rattle.cr_explore.specs.Searches.{IsNarrowPath};
+
+    ghost Value = { WalkParts };
+
+    ghost view = { λ w. w.path };
+
+    ghost invariant = { λ w. IsNarrowPath w.path.problem w.numbers.now w.outlook.now w.so_far.items };
+}
+
+impl<'a, const WIDTH: usize, const COUNTS: usize, const STEPS: usize> NarrowPath<
+    'a,
+    WIDTH,
+    COUNTS,
+    STEPS,
+> {
+    /// The path at the node without steps, whose children are all tried, with the outlook from the heads of its numbers. Err
+    /// where no memory is left.
+    pub fn new(
+        alloc: Global,
+        problem: &'a Problem,
+        leads: &'a LeadTable,
+        numbers: &'a NumberTable,
+        outlook: &'a Outlook,
+    ) -> Result<NarrowPath<'a, WIDTH, COUNTS, STEPS>, NoMemory>
+        requires leads { leads.now ≡ lead_table problem.now }
+        requires numbers { IsNumbered problem.now numbers.now }
+        requires width { numbers.now.width ≡ WIDTH }
+        requires counted { COUNTS ≡ 0 → AsksNothing problem.now.query }
+        requires steps { 0 < STEPS → STEPS ≡ length problem.now.leads }
+        requires outlook { IsOutlook problem.now numbers.now.heads outlook.now }
+        ensures { IfOk result (λ path. path ≡ record { problem = problem.now; node = []; next = length problem.now.leads }) }
+    {
+        let so_far = Vec::from_elem(alloc, 0, outlook.items())?;
+        let path = NumberPath::new(alloc, problem, leads, numbers)?;
+        Ok(NarrowPath {
+            path,
+            numbers,
+            outlook,
+            so_far,
+        })
+    }
+}
+
+impl<'a, const WIDTH: usize, const COUNTS: usize, const STEPS: usize> Path
+    for NarrowPath<'a, WIDTH, COUNTS, STEPS> {
+    ghost problem_of = { λ w. w.problem };
+
+    ghost node_of = { λ w. w.node };
+
+    ghost next_of = { λ w. w.next };
+
+    #[inline(always)]
+    fn problem(&self) -> &Problem {
+        self.path.problem()
+    }
+
+    #[inline(always)]
+    fn node(&self) -> &[u8] {
+        self.path.node()
+    }
+
+    fn gone_to(self, steps: &[u8]) -> NarrowPath<'a, WIDTH, COUNTS, STEPS> {
+        let NarrowPath {
+            path,
+            numbers,
+            outlook,
+            so_far,
+        } = self;
+        NarrowPath {
+            path: path.gone_to(steps),
+            numbers,
+            outlook,
+            so_far,
+        }
+    }
+
+    #[inline(always)]
+    fn down(&mut self) -> Option<u8> {
+        self.path.down()
+    }
+
+    #[inline(always)]
+    fn up(&mut self) -> u8 {
+        self.path.up()
+    }
+
+    fn pass(&mut self) {
+        self.path.pass();
+    }
+
+    #[inline(always)]
+    fn has_none_below(&mut self) -> bool {
+        cannot_come(
+            self.outlook,
+            self.numbers,
+            self.path.walk(),
+            &mut self.so_far,
+        )
+    }
+
+    #[inline(always)]
+    fn is_kept(&self, alloc: Global) -> Result<bool, NoMemory> {
+        self.path.is_kept(alloc)
+    }
+}
+
+// Whether an outlook from the heads of a table of numbers tells that a walk's node cannot come to what is asked. What the
+// node has of each item is written into the room for it.
+#[inline(always)]
+fn cannot_come<const WIDTH: usize, const COUNTS: usize, const STEPS: usize>(
+    outlook: &Outlook,
+    numbers: &NumberTable,
+    walk: &NumberWalk<WIDTH, COUNTS, STEPS>,
+    so_far: &mut Vec<u32>,
+) -> bool
+    requires outlook { IsOutlook walk.now.problem numbers.now.heads outlook.now }
+    requires so_far { length so_far.old.items ≡ length outlook.now.items }
+    ensures same { length so_far.new.items ≡ length so_far.old.items }
+    ensures none { result ≡ true → HasNoneBelow walk.now.problem walk.now.node }
+{
+    nothing_is_kept_below_a_node_that_cannot_come_by_exact_items();
+    let Some(place) = walk.head_number(numbers) else {
+        return false;
+    };
+    take_items(walk, so_far);
+    outlook.cannot_come(place, walk.length() as u32, so_far)
+}
+
+// Writes what a walk's node has of the first items, as many as there is room for.
+#[inline(always)]
+fn take_items<const WIDTH: usize, const COUNTS: usize, const STEPS: usize>(
+    walk: &NumberWalk<WIDTH, COUNTS, STEPS>,
+    so_far: &mut Vec<u32>,
+)
+    requires { length so_far.old.items ≤ length (item_numbers walk.now.problem walk.now.node) }
+    ensures same { length so_far.new.items ≡ length so_far.old.items }
+    ensures items { so_far.new.items ≡ take (length so_far.old.items) (item_numbers walk.now.problem walk.now.node) }
+{
+    for item in 0..so_far.len() {
+        so_far[item] = walk.item_number(item);
+    }
+}

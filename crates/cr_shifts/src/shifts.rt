@@ -1,0 +1,192 @@
+//! Shifts, one after another, until no node is left.
+
+ghost use Rattle.std.specs.Prelude.{◌≡◌, ◌<◌, ◌≤◌, ◌++◌, [], None, List, length, map, All, Ok, IfOk};
+ghost use Rattle.cr_model.specs.Checkpoints.{CanGoOn, nodes_of_jobs};
+ghost use Rattle.cr_model.specs.Nodes.{IsValid, Independent, Splits};
+ghost use Rattle.cr_model.specs.Sizes.{most_rows, size_of_all};
+ghost use Rattle.cr_node.specs.Work.{IsJob};
+ghost use Rattle.cr_store.specs.Written.{lists};
+ghost use Rattle.cr_trail.specs.Runs.{RunsOn};
+ghost use Rattle.cr_shifts.specs.Shifts.{IsPartDone, GoesOn, found_by, left_by};
+
+use crate::finder::{Finder, Findings};
+use cr_explore::laws::a_split_in_any_order;
+use cr_model::Calling;
+use cr_model::laws::{a_split_among_others, sizes_are_sums, splits_follow_one_another};
+use cr_node::Node;
+use cr_row::NoMemory;
+use cr_store::Remaining;
+use cr_trail::RunProgress;
+use std::alloc::Global;
+use std::thread::{Threads, map_vec};
+
+// About how many turns each job of the first shift takes, and of the later ones at most. Few at first, so that few nodes soon
+// become many.
+const FIRST_TURNS: u64 = 1 << 12;
+
+const MOST_TURNS: u64 = 1 << 20;
+
+// How many jobs a shift has for each of several workers: the work of some is done soon.
+const JOBS_FOR_A_WORKER: usize = 4;
+
+/// Goes on from where a search went, by about so many threads, until no node is left. What it finds comes behind what was
+/// found before, in whatever order that is. Err where no memory is left.
+pub fn find_in_shifts<R: AllocGlobal + Threads + Sync, F: Finder + Sync>(
+    rt: &R,
+    workers: u32,
+    finder: &F,
+    before: RunProgress,
+) -> Result<RunProgress, NoMemory>
+    requires { CanGoOn (F.finds finder.now) [] (lists before.left.jobs.items) }
+    ensures run { IfOk result (λ now. RunsOn (F.finds finder.now) before.left.found.items (lists before.left.jobs.items) None
+        now.left.found.items (lists now.left.jobs.items)) }
+    ensures whole { IfOk result (λ now. now.left.jobs.items ≡ []) }
+{
+    sizes_are_sums();
+    let alloc = rt.alloc();
+    let RunProgress { left, mut handed } = before;
+    let Remaining { mut found, jobs } = left;
+    let nodes = in_one(alloc, jobs)?;
+    find_all(rt, workers, finder, nodes, &mut found, &mut handed)?;
+    let left = Remaining {
+        found,
+        jobs: Vec::new(alloc),
+    };
+    Ok(RunProgress { left, handed })
+}
+
+// Puts all kept touches below some nodes behind what was found before. How many each job found that found any comes behind
+// the numbers.
+fn find_all<R: AllocGlobal + Threads + Sync, F: Finder + Sync>(
+    rt: &R,
+    workers: u32,
+    finder: &F,
+    nodes: Vec<Node>,
+    found: &mut Vec<Calling>,
+    handed: &mut Vec<u64>,
+) -> Result<(), NoMemory>
+    requires valid { All (IsValid (F.finds finder.now)) nodes.items }
+    requires independent { Independent (F.finds finder.now) [] nodes.items }
+    ensures { IfOk result (λ _. GoesOn (F.finds finder.now) nodes.items found.old.items found.new.items []) }
+{
+    splits_follow_one_another();
+    let alloc = rt.alloc();
+    let mut left = nodes;
+    let mut turns = FIRST_TURNS;
+    while !left.is_empty() {
+        let done = one_shift(rt, workers, finder, left, turns)?;
+        left = put_together(alloc, done, found, handed)?;
+        turns = (2 * turns).min(MOST_TURNS);
+    }
+    Ok(())
+}
+
+// One shift: what each job found and left.
+fn one_shift<R: AllocGlobal + Threads + Sync, F: Finder + Sync>(
+    rt: &R,
+    workers: u32,
+    finder: &F,
+    nodes: Vec<Node>,
+    turns: u64,
+) -> Result<Vec<Findings>, NoMemory>
+    requires some { 0 < length nodes.items }
+    requires turns { 0 < turns }
+    requires valid { All (IsValid (F.finds finder.now)) nodes.items }
+    requires independent { Independent (F.finds finder.now) [] nodes.items }
+    ensures splits { IfOk result (λ done. Splits (F.finds finder.now) nodes.items (found_by done.items) (left_by done.items)) }
+    ensures smaller { IfOk result (λ done. size_of_all (F.finds finder.now) most_rows (left_by done.items)
+        < size_of_all (F.finds finder.now) most_rows nodes.items) }
+{
+    a_split_among_others();
+    a_split_in_any_order();
+    sizes_are_sums();
+    splits_follow_one_another();
+    let alloc = rt.alloc();
+    let jobs = in_jobs(alloc, nodes, most_jobs(workers))?;
+    let find = |job: Vec<Node>| -> Result<Findings, NoMemory>
+        requires { IsJob (F.finds finder.now) job.items × (0 < turns) }
+        ensures { IfOk result (IsPartDone (F.finds finder.entry.now) job.items) }
+    { finder.find(alloc, &job, turns) };
+    let results = map_vec(rt, jobs, &find)?;
+    all_made(alloc, results)
+}
+
+// How many jobs a shift has at most. One worker needs no more than one.
+fn most_jobs(workers: u32) -> usize
+    ensures { 0 < result }
+{
+    if workers < 2 {
+        1
+    } else {
+        JOBS_FOR_A_WORKER * workers as usize
+    }
+}
+
+// What was made, where each was.
+fn all_made(
+    alloc: Global,
+    results: Vec<Result<Findings, NoMemory>>,
+) -> Result<Vec<Findings>, NoMemory>
+    ensures { IfOk result (λ made. results.items ≡ map Ok made.items) }
+{
+    let mut made = Vec::with_capacity(alloc, results.len())?;
+    for result in results {
+        made.push(result?)?;
+    }
+    Ok(made)
+}
+
+// Puts what jobs found behind what was found before, and gives what they left in one list.
+fn put_together(
+    alloc: Global,
+    done: Vec<Findings>,
+    found: &mut Vec<Calling>,
+    handed: &mut Vec<u64>,
+) -> Result<Vec<Node>, NoMemory>
+    ensures found { IfOk result (λ _. found.new.items ≡ found.old.items ++ found_by done.items) }
+    ensures left { IfOk result (λ left. left.items ≡ left_by done.items) }
+{
+    let mut left = Vec::new(alloc);
+    for one in done {
+        let Findings {
+            found: mut more,
+            mut rest,
+        } = one;
+        if !more.is_empty() {
+            handed.push(more.len() as u64)?;
+        }
+        found.append(&mut more)?;
+        left.append(&mut rest)?;
+    }
+    Ok(left)
+}
+
+// The nodes of all jobs, in one list.
+fn in_one(alloc: Global, jobs: Vec<Vec<Node>>) -> Result<Vec<Node>, NoMemory>
+    ensures { IfOk result (λ nodes. nodes.items ≡ nodes_of_jobs (lists jobs.items)) }
+{
+    let mut nodes = Vec::new(alloc);
+    for mut job in jobs {
+        nodes.append(&mut job)?;
+    }
+    Ok(nodes)
+}
+
+// The nodes cut into so many jobs at most, each of as many as the others but for the last one. None is empty.
+fn in_jobs(alloc: Global, nodes: Vec<Node>, most: usize) -> Result<Vec<Vec<Node>>, NoMemory>
+    requires some { 0 < length nodes.items }
+    requires most { 0 < most }
+    ensures all { IfOk result (λ jobs. nodes_of_jobs (lists jobs.items) ≡ nodes.items) }
+    ensures filled { IfOk result (λ jobs. All (λ job. 0 < length job) (lists jobs.items)) }
+{
+    let size = nodes.len().div_ceil(most);
+    let mut jobs = Vec::new(alloc);
+    let mut job = nodes;
+    while job.len() > size {
+        let rest = job.split_off(size)?;
+        jobs.push(job)?;
+        job = rest;
+    }
+    jobs.push(job)?;
+    Ok(jobs)
+}
