@@ -41,6 +41,7 @@ mod summary;
 mod texts;
 
 pub use fault::CallingFault;
+pub use made::each_in_a_thread;
 pub use order::sort_found;
 pub use pieces::{BookPieces, book_pieces, line_pieces};
 pub use reading::read_calling;

@@ -24,7 +24,7 @@ use cr_false::FalseTable;
 use cr_leads::LeadTable;
 use cr_model::{Calling, Problem};
 use cr_node::{Done, Node};
-use cr_path::{NumberTable, is_counted};
+use cr_path::{NumberTable, Room, is_counted};
 use cr_reach::ReachTable;
 use cr_row::NoMemory;
 use std::alloc::Global;
@@ -33,32 +33,19 @@ use std::marker::Model;
 // How many rows the table of levels holds at most.
 const MOST_ROWS: u64 = 200_000;
 
-/// How much the numbers of a problem may take while they are made.
-#[derive(Clone, Copy)]
-struct Room {
-    // The bytes of the records and numbers of all heads.
-    bytes: u64,
-    // The rows that have numbers. Each takes some 24 bytes more.
-    rows: u32,
-}
-
 // For a search that may be short: what is made in this room takes less than half a second.
 const FIRST_ROOM: Room = Room {
     bytes: 48_000_000,
+    heads: 1 << 16,
     rows: 1 << 20,
 };
 
 // For a search that is long: seconds. All heads of ten bells have room in it.
 const LONG_ROOM: Room = Room {
     bytes: 512_000_000,
+    heads: 1 << 23,
     rows: 1 << 22,
 };
-
-// How many bytes a lead takes then, and how many each of its rows: of all rows and of the representative ones, and for the
-// leads in which a row stands.
-const RECORD_BYTES: u64 = 48;
-
-const NUMBER_BYTES: u64 = 12;
 
 /// The tables of a problem: its leads, the rows that are few leads from rounds, and, where they have room, its heads and
 /// rows by numbers.
@@ -115,8 +102,7 @@ impl Tables {
     {
         let problem = problem.copy(alloc)?;
         let reach = reach_of(alloc, &problem, &leads)?;
-        let heads = room_for_heads(room, &leads);
-        let numbers = NumberTable::new(alloc, &problem, &leads, &reach, heads, room.rows)?;
+        let numbers = NumberTable::new(alloc, &problem, &leads, &reach, room)?;
         Ok(Tables {
             problem,
             leads,
@@ -239,15 +225,6 @@ impl Tables {
             turns_by_walk(alloc, problem, leads, &self.reach, table, job, turns)
         )
     }
-}
-
-// How many heads have room.
-fn room_for_heads(room: Room, leads: &LeadTable) -> u64 {
-    let mut bytes = 0;
-    for step in 0..leads.count() {
-        bytes += RECORD_BYTES + NUMBER_BYTES * leads.rows_of(step).len() as u64;
-    }
-    room.bytes / bytes.max(1)
 }
 
 // The rows that are few leads from rounds.

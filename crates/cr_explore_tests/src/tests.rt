@@ -12,7 +12,7 @@ use cr_model::Cell::Bell;
 use cr_model::{Calling, Cell, Com, Count, Lead, Pattern, Problem, Query, Step};
 use cr_node::laws::work_goes_on;
 use cr_node::{Explorer, Node};
-use cr_path::NumberTable;
+use cr_path::{NumberTable, Room};
 use cr_reach::ReachTable;
 use cr_row::{NoMemory, Stage};
 use cr_samples::changes_of;
@@ -175,7 +175,12 @@ fn reach_of(alloc: Global, problem: &Problem, leads: &LeadTable) -> Result<Reach
 fn numbered(alloc: Global, problem: &Problem) -> Result<Search, Fail> {
     let leads = LeadTable::new(alloc, problem)?;
     let reach = reach_of(alloc, problem, &leads)?;
-    if NumberTable::new(alloc, problem, &leads, &reach, 1000, 1 << 20)?.is_none() {
+    let room = Room {
+        bytes: 1 << 30,
+        heads: 1_000,
+        rows: 1 << 20,
+    };
+    if NumberTable::new(alloc, problem, &leads, &reach, room)?.is_none() {
         return Err(Fail::from("there are no numbers"));
     }
     Ok(Search::Rows(RowSearch::new(alloc, problem)?))

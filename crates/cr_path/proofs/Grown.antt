@@ -1,5 +1,5 @@
 -- Rows pushed on a stack keep their places.
-use Rattle.std.proofs.Common.{◌≡◌, ℕ, ◌+◌, ◌<◌, ◌≤◌, List, [], ◌∷◌, ◌++◌, length, get_or, map, take, inl, inr, refl, sym, ap, ap₂, ◌∙◌, subst, arith, length-append}
+use Rattle.std.proofs.Common.{◌≡◌, ℕ, ◌+◌, ◌<◌, ◌≤◌, Bool, true, false, cond, List, [], ◌∷◌, ◌++◌, length, get_or, map, take, inl, inr, refl, sym, ap, ap₂, ◌∙◌, subst, arith, length-append}
 use Rattle.std.specs.Prelude.{All}
 use Rattle.std.proofs.lemmas.List.{append-nil, append_assoc, map-append, get_or_append_left, get_or_at, take_more, get_or-take, length-take-le}
 use Rattle.std.proofs.lemmas.List.Elements.{All-nil, All-push, All-head, All-tail, All-weaker}
@@ -8,6 +8,7 @@ use Rattle.cr_rowset.specs.Pushing.{Pushes, StandsAt}
 use Rattle.cr_rowset.specs.declared.pushed.Pushed.{Pushed}
 use Rattle.cr_rowset.specs.declared.pushed.Pushed.TheVariants.{Fresh, Again, Full}
 use Rattle.cr_model.specs.Problems.{ProblemParts}
+use Rattle.cr_path.specs.Rung.{IsReached}
 use Rattle.cr_path.specs.RungLeads.{IsKept, HasNumber, AreHeads, AreNumbered}
 
 pub kept_all : (rows : List (List ℕ)) → IsKept rows rows
@@ -51,8 +52,8 @@ kept_by old new row number has = elim has.grown [
 
 -- so heads stay heads
 pub heads_more : (p : ProblemParts) (old new : List (List ℕ)) (row : List ℕ) (number : ℕ) → AreHeads p old → HasNumber old row number new
-    → length row ≡ p.stage → AreHeads p new
-heads_more p old new row number are has long =
+    → length row ≡ p.stage → IsReached p row → AreHeads p new
+heads_more p old new row number are has long reached =
     let kept : IsKept old new = kept_by old new row number has in
     record {
       some = omega (arith, are.some, kept.long);
@@ -60,6 +61,10 @@ heads_more p old new row number are has long =
       staged = elim has.grown [
         | inl same ↦ subst (All (λ (head : List ℕ). length head ≡ p.stage)) (sym same) are.staged
         | inr more ↦ subst (All (λ (head : List ℕ). length head ≡ p.stage)) (sym more) (All-push (λ (head : List ℕ). length head ≡ p.stage) old row are.staged long)
+      ];
+      reached = elim has.grown [
+        | inl same ↦ subst (All (IsReached p)) (sym same) are.reached
+        | inr more ↦ subst (All (IsReached p)) (sym more) (All-push (IsReached p) old row are.reached reached)
       ];
     }
 
@@ -99,6 +104,15 @@ numbered_more old mid new before now next rung row number are has next_is =
       are = map-append (λ n. get_or new n []) are.more (number ∷ [])
           ∙ ap₂ (λ (rows : List (List ℕ)) (last : List ℕ). rows ++ last ∷ []) (same_rows mid new are.more kept are.within ∙ are.are) has.stands.is;
     }
+
+-- and rounds, which is the first row, where it is one more
+pub numbered_first : (old mid : List (List ℕ)) (before now next : List ℕ) (rung : List (List ℕ)) (row : List ℕ) (has : Bool) → AreNumbered old before rung mid now → 0 < length mid → get_or mid 0 [] ≡ row
+    → next ≡ now ++ cond has (0 ∷ []) [] → AreNumbered old before (rung ++ cond has (row ∷ []) []) mid next
+numbered_first old mid before now next rung row true are some first next_is =
+    numbered_more old mid mid before now next rung row 0 are (record { grown = inl refl; stands = record { within = some; is = first } }) next_is
+numbered_first old mid before now next rung row false are some first next_is =
+    subst (λ (rows : List (List ℕ)). AreNumbered old before rows mid next) (sym (append-nil rung))
+    (subst (AreNumbered old before rung mid) (sym (next_is ∙ append-nil now)) are)
 
 -- one more of some mapped rows
 pub map_more : (f : List ℕ → List ℕ) (rows : List (List ℕ)) (i : ℕ) (row : List ℕ) → i < length rows → row ≡ get_or rows i row

@@ -27,7 +27,7 @@ module _ (p : ProblemParts) (t : NumberParts) (node : List ℕ) (next : ℕ) (en
   left_kept after left uncut =
       let other : LeadEnd = record { base = end.base; rung = end.rung; left = left; round = end.round } in
       let is = last_end in
-      let at_other : IsEnd p t node other = record { from = is.from; long = is.long; round = is.round } in
+      let at_other : IsEnd p t node other = record { from = is.from; by_records = is.by_records; long = is.long; round = is.round } in
       let same : (i : ℕ) (d : LeadEnd) → i < length ends → get_or (ends ++ end ∷ []) i d ≡ get_or (ends ++ other ∷ []) i d =
       (λ i d low. get_or_append_left ends (end ∷ []) d i low ∙ sym (get_or_append_left ends (other ∷ []) d i low)) in
       record {

@@ -1,5 +1,6 @@
 pub mod Places
 pub mod Listed
+pub mod Chained
 pub mod Products
 pub mod Children
 pub mod Marking
@@ -15,6 +16,8 @@ pub mod Recorded
 pub mod Covering
 pub mod Names
 pub mod Padding
+pub mod Rounds
+pub mod Telling
 pub mod Told
 pub mod Minimus
 pub mod Kept

@@ -1,15 +1,15 @@
 -- Rows that stand among others, and rows by their numbers.
-use Rattle.std.proofs.Common.{◌≡◌, ℕ, ◌<◌, Bool, true, false, cond, not, ◌&&◌, ◌||◌, nat_eq, List, [], ◌∷◌, ◌++◌, length, get_or, map, All, refl, sym, ap, ap₂, ◌∙◌}
+use Rattle.std.proofs.Common.{◌≡◌, ℕ, ◌<◌, Bool, true, false, cond, not, ◌&&◌, ◌||◌, nat_eq, List, [], ◌∷◌, ◌++◌, get_or, map, All, refl, sym, ap, ap₂, ◌∙◌, inl, inr, eqb-true}
 use Rattle.std.specs.Cmp.Lexicographic.{pointwise}
 use Rattle.std.specs.List.{list_any, list_all}
-use Rattle.std.proofs.lemmas.Bool.{false≢true, or_parts}
+use Rattle.std.proofs.lemmas.Bool.{false≢true, or_cases, or_parts}
 use Rattle.std.proofs.lemmas.Cmp.{nat_list_eq_equiv}
 use Rattle.std.proofs.lemmas.List.Elements.{All-head, All-tail}
 use Rattle.std.proofs.lemmas.List.Folds.{list_any-append, list_all-append}
-use Rattle.std.proofs.lemmas.Slice.Eq.{bytes_eq-Decides}
 use Rattle.cr_model.specs.Decided.{rows_differ}
 use Rattle.cr_model.specs.Levels.{is_listed}
 use Rattle.cr_path.specs.Marks.{some_marked}
+use Rattle.cr_path.specs.Numbers.{NumberParts, numbers_of, is_seen}
 
 not_or : (a b : Bool) → not (a || b) ≡ (not a && not b)
 not_or true b = refl
@@ -67,45 +67,77 @@ differ_joined (row ∷ rows) more =
 pub listed_joined : (rows more : List (List ℕ)) (row : List ℕ) → is_listed (rows ++ more) row ≡ (is_listed rows row || is_listed more row)
 listed_joined rows more row = list_any-append (pointwise nat_eq row) rows more
 
--- where none of the later rows stands among the earlier, one that is of the later is not of the earlier
-pub apart : (rows more : List (List ℕ)) (row : List ℕ) → list_any (is_listed rows) more ≡ false → is_listed more row ≡ true → is_listed rows row ≡ false
-apart rows [] row none h = absurd (false≢true h)
-apart rows (other ∷ more) row none h =
-    let (first, rest) = or_parts (is_listed rows other) (list_any (is_listed rows) more) none in
-    by (pointwise nat_eq row other) refl first h (apart rows more row rest)
-  where
-    by : (b : Bool) → pointwise nat_eq row other ≡ b → is_listed rows other ≡ false → (b || is_listed more row) ≡ true → (is_listed more row ≡ true → is_listed rows row ≡ false) → is_listed rows row ≡ false
-    by true same first h' later = ap (is_listed rows) ((bytes_eq-Decides row other).0 same) ∙ first
-    by false same first h' later = later h'
+-- one of some numbers is marked where one is seen that is marked
+pub some_are : (rows : ℕ) (seen : ℕ → Bool) (marks : List Bool) (numbers : List ℕ) → ((number : ℕ) → number < rows → get_or marks number false ≡ seen number) → All (λ number. number < rows) numbers
+    → some_marked marks numbers ≡ list_any seen numbers
+some_are rows seen marks [] are within = refl
+some_are rows seen marks (number ∷ numbers) are within =
+    ap₂ (λ a b. a || b) (are number (All-head (λ (n : ℕ). n < rows) number numbers within))
+    (some_are rows seen marks numbers are (All-tail (λ (n : ℕ). n < rows) number numbers within))
 
--- rows by their numbers
-module _ (rows : List (List ℕ)) where
-  abbrev pub at : ℕ → List ℕ
-  at number = get_or rows number []
+-- where none of some numbers is seen, one of them is not
+not_seen : (seen : ℕ → Bool) (numbers : List ℕ) (number : ℕ) → list_any seen numbers ≡ false → list_any (nat_eq number) numbers ≡ true → seen number ≡ false
+not_seen seen [] number none among = absurd (false≢true among)
+not_seen seen (other ∷ numbers) number none among =
+    let (first, rest) = or_parts (seen other) (list_any seen numbers) none in
+    elim (or_cases (nat_eq number other) (list_any (nat_eq number) numbers) among) [
+      | inl same ↦ ap seen (eqb-true number other same) ∙ first
+      | inr later ↦ not_seen seen numbers number rest later
+    ]
 
-  -- one of them is marked where one of the rows is of those that are marked
-  pub some_are : (seen : List (List ℕ)) (marks : List Bool) (numbers : List ℕ) → ((number : ℕ) → number < length rows → get_or marks number false ≡ is_listed seen (at number)) → All (λ number. number < length rows) numbers
-      → some_marked marks numbers ≡ list_any (is_listed seen) (map at numbers)
-  some_are seen marks [] are within = refl
-  some_are seen marks (number ∷ numbers) are within =
-      ap₂ (λ a b. a || b) (are number (All-head (λ (n : ℕ). n < length rows) number numbers within)) (some_are seen marks numbers are (All-tail (λ (n : ℕ). n < length rows) number numbers within))
+or_none : (b : Bool) → (b || false) ≡ b
+or_none true = refl
+or_none false = refl
 
--- marks with those of more rows, and without them
-pub more_marked : (seen more : List (List ℕ)) (row : List ℕ) → cond (is_listed more row) true (is_listed seen row) ≡ is_listed (seen ++ more) row
-more_marked seen more row = by (is_listed seen row) (is_listed more row) ∙ sym (listed_joined seen more row)
-  where
-    by : (a b : Bool) → cond b true a ≡ (a || b)
-    by true true = refl
-    by true false = refl
-    by false true = refl
-    by false false = refl
+-- numbers of one lead, and of one lead more
+module _ (t : NumberParts) (place number : ℕ) where
+  abbrev among : Bool
+  among = list_any (nat_eq number) (numbers_of t place)
 
-pub fewer_marked : (seen more : List (List ℕ)) (row : List ℕ) → list_any (is_listed seen) more ≡ false → cond (is_listed more row) false (is_listed (seen ++ more) row) ≡ is_listed seen row
-fewer_marked seen more row none =
-    ap (λ b. cond (is_listed more row) false b) (listed_joined seen more row)
-    ∙ by (is_listed seen row) (is_listed more row) (apart seen more row none)
-  where
-    by : (a b : Bool) → (b ≡ true → a ≡ false) → cond b false (a || b) ≡ a
-    by a true h = sym (h refl)
-    by true false h = refl
-    by false false h = refl
+  pub seen_alone : is_seen t (place ∷ []) number ≡ among
+  seen_alone = or_none among
+
+  pub seen_more : (places : List ℕ) → is_seen t (places ++ place ∷ []) number ≡ (is_seen t places number || among)
+  seen_more places =
+      list_any-append (λ (k : ℕ). list_any (nat_eq number) (numbers_of t k)) places (place ∷ []) ∙ ap (λ b. is_seen t places number || b) seen_alone
+
+  -- marks with those of one lead more, and without them
+  pub more_marked : (places : List ℕ) → cond among true (is_seen t places number) ≡ is_seen t (places ++ place ∷ []) number
+  more_marked places = by (is_seen t places number) among ∙ sym (seen_more places)
+    where
+      by : (a b : Bool) → cond b true a ≡ (a || b)
+      by true true = refl
+      by true false = refl
+      by false true = refl
+      by false false = refl
+
+  pub fewer_marked : (places : List ℕ) → list_any (is_seen t places) (numbers_of t place) ≡ false → cond among false (is_seen t (places ++ place ∷ []) number) ≡ is_seen t places number
+  fewer_marked places none =
+      ap (λ b. cond among false b) (seen_more places)
+      ∙ by (is_seen t places number) among (not_seen (is_seen t places) (numbers_of t place) number none)
+    where
+      by : (a b : Bool) → (b ≡ true → a ≡ false) → cond b false (a || b) ≡ a
+      by a true h = sym (h refl)
+      by true false h = refl
+      by false false h = refl
+
+-- numbers of joined leads
+pub seen_joined : (t : NumberParts) (places more : List ℕ) (number : ℕ) → is_seen t (places ++ more) number ≡ (is_seen t places number || is_seen t more number)
+seen_joined t places more number = list_any-append (λ (k : ℕ). list_any (nat_eq number) (numbers_of t k)) places more
+
+pub any_seen : (t : NumberParts) (places more numbers : List ℕ) → list_any (is_seen t (places ++ more)) numbers ≡ (list_any (is_seen t places) numbers || list_any (is_seen t more) numbers)
+any_seen t places more [] = refl
+any_seen t places more (number ∷ numbers) =
+    ap₂ (λ a b. a || b) (seen_joined t places more number) (any_seen t places more numbers)
+    ∙ or_mixed (is_seen t places number) (is_seen t more number) (list_any (is_seen t places) numbers) (list_any (is_seen t more) numbers)
+
+-- two tests of numbers below some number
+pub any_same : (bound : ℕ) (f g : ℕ → Bool) (numbers : List ℕ) → ((number : ℕ) → number < bound → f number ≡ g number) → All (λ number. number < bound) numbers → list_any f numbers ≡ list_any g numbers
+any_same bound f g [] same within = refl
+any_same bound f g (number ∷ numbers) same within =
+    ap₂ (λ a b. a || b) (same number (All-head (λ (n : ℕ). n < bound) number numbers within))
+    (any_same bound f g numbers same (All-tail (λ (n : ℕ). n < bound) number numbers within))
+
+pub any_mapped : {X : Type 0} (test : X → Bool) (f : ℕ → X) (numbers : List ℕ) → list_any (λ number. test (f number)) numbers ≡ list_any test (map f numbers)
+any_mapped test f [] = refl
+any_mapped test f (number ∷ numbers) = ap (λ b. test (f number) || b) (any_mapped test f numbers)

@@ -24,7 +24,7 @@ use Rattle.cr_path.specs.declared.walks.ends.LeadEnd.{LeadEnd}
 use Rattle.cr_path.specs.Ends.{IsEnd}
 use Rattle.cr_path.specs.Living.{is_clean, is_cut, is_hopeless, is_live, AreCut}
 use Rattle.cr_path.specs.Marks.{some_marked, AreMarked, IsLead}
-use Rattle.cr_path.specs.Numbers.{NumberParts, lead_from, head_after, brings_round, dies_after, numbers_of, IsNumbered}
+use Rattle.cr_path.specs.Numbers.{NumberParts, lead_from, head_after, brings_round, dies_after, numbers_of, IsNumbered, places_of, is_seen}
 use Rattle.cr_path.proofs.Children.{child_rows, child_head, child_length, lead_long, some_changes, few_leads}
 use Rattle.cr_path.proofs.Listed.{differ_joined, listed_joined}
 use Rattle.cr_path.proofs.Marking.{lead_differs, marked_told, all_fresh, marks_of}
@@ -245,11 +245,11 @@ module _ (test : ℕ → Bool) where
       ap (λ n. find test (range_with_len a n)) more ∙ ap (λ b. cond b (Some a) (find test (range_with_len (a + 1) (end - (a + 1))))) holds
 
 -- whether a node is clean, told by the marks
-pub clean_told : (p : ProblemParts) (t : NumberParts) (node : List ℕ) (marks : List Bool) (fresh : ℕ) → IsNumbered p t → AreMarked p t node marks fresh → rows_differ (rows_of p node) ≡ true → (first : Bool) → first ≡ get_or marks 0 false
-    → not first ≡ is_clean p node
-clean_told p t node marks fresh numbered are differ first is =
+pub clean_told : (p : ProblemParts) (t : NumberParts) (node : List ℕ) (marks : List Bool) (fresh : ℕ) → IsNumbered p t → AreMarked p t node marks fresh → rows_differ (rows_of p node) ≡ true
+    → is_seen t (places_of t node) 0 ≡ has_rounds p (rows_of p node) → (first : Bool) → first ≡ get_or marks 0 false → not first ≡ is_clean p node
+clean_told p t node marks fresh numbered are differ told first is =
     let tells : get_or marks 0 false ≡ has_rounds p (rows_of p node) =
-    marks_of p t node marks fresh are (all_fresh p t node marks fresh are differ) 0 numbered.some_row ∙ ap (is_listed (rows_of p node)) numbered.first_row in
+    marks_of p t node marks fresh are (all_fresh p t node marks fresh are differ) 0 numbered.some_row ∙ told in
     ap not (is ∙ tells) ∙ ap (λ b. b && not (has_rounds p (rows_of p node))) (sym differ)
 
 -- one step more by which the child is cut

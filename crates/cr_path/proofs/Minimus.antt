@@ -1,5 +1,5 @@
 -- Plain Bob Minimus by numbers.
-use Rattle.std.proofs.Common.{◌≡◌, ◌≢◌, ℕ, zero, suc, ◌+◌, ◌*◌, ◌<◌, ◌≤◌, ◌↔◌, true, false, not, ◌||◌, nat_lt, nat_eq, List, [], ◌∷◌, length, get_or, refl, sym, ap, ◌∙◌, arith, lit<, lit≤}
+use Rattle.std.proofs.Common.{◌≡◌, ◌≢◌, ℕ, zero, suc, ◌+◌, ◌*◌, ◌<◌, ◌≤◌, ◌↔◌, true, false, not, ◌||◌, nat_lt, List, [], ◌∷◌, length, get_or, refl, sym, ap, ◌∙◌, arith, lit<, lit≤}
 use Rattle.std.specs.Prelude.{Contains}
 use Rattle.std.specs.List.{list_any}
 use Rattle.std.proofs.lemmas.Bool.{false≢true}
@@ -11,7 +11,7 @@ use Rattle.cr_model.specs.Levels.{IsLevel, HasRoom, spread, level, up_to_level, 
 use Rattle.cr_model.specs.Sizes.{most_rows}
 use Rattle.cr_model.specs.Examples.{minimus, asks}
 use Rattle.cr_model.proofs.Deciding.{all_decided}
-use Rattle.cr_path.specs.Numbers.{lead_from, power, numbers_of, IsRecord, IsTold, IsNumbered}
+use Rattle.cr_path.specs.Numbers.{lead_from, power, numbers_of, is_seen, IsRecord, IsTold, IsNumbered}
 use Rattle.cr_path.specs.Examples.{lead_at, minimus_numbers, minimus_asked, called, called_numbers}
 use Rattle.cr_path.specs.declared.numbers.table.LeadRecord.{LeadRecord}
 use Rattle.cr_path.proofs.NextHeads.{heads_staged}
@@ -64,26 +64,8 @@ below_9 rung = grind (arith, nat_tests)
 below_17 : (rung : ℕ) → nat_lt rung 17 ≡ not (nat_lt 24 (rung + 8) || nat_lt 24 (rung + 8 + 8 * 0))
 below_17 rung = grind (arith, nat_tests)
 
--- which representative rows stand in a lead, and which other leads have them
+-- the records, and which leads tell of which
 module _ (laws : LevelLaws) where
-  first_are : (number : ℕ) → number < 3 → list_any (nat_eq number) (numbers_of minimus_numbers 0) ≡ is_listed (lead_from minimus (1 ∷ 2 ∷ 3 ∷ 4 ∷ []) 0) (get_or minimus_numbers.rows number [])
-  first_are zero inside = refl
-  first_are (suc zero) inside = refl
-  first_are (suc (suc zero)) inside = refl
-  first_are (suc (suc (suc number))) inside = absurd (omega arith)
-
-  second_are : (number : ℕ) → number < 3 → list_any (nat_eq number) (numbers_of minimus_numbers 1) ≡ is_listed (lead_from minimus (1 ∷ 3 ∷ 4 ∷ 2 ∷ []) 0) (get_or minimus_numbers.rows number [])
-  second_are zero inside = refl
-  second_are (suc zero) inside = refl
-  second_are (suc (suc zero)) inside = refl
-  second_are (suc (suc (suc number))) inside = absurd (omega arith)
-
-  third_are : (number : ℕ) → number < 3 → list_any (nat_eq number) (numbers_of minimus_numbers 2) ≡ is_listed (lead_from minimus (1 ∷ 4 ∷ 2 ∷ 3 ∷ []) 0) (get_or minimus_numbers.rows number [])
-  third_are zero inside = refl
-  third_are (suc zero) inside = refl
-  third_are (suc (suc zero)) inside = refl
-  third_are (suc (suc (suc number))) inside = absurd (omega arith)
-
   first : IsRecord minimus minimus_numbers (1 ∷ 2 ∷ 3 ∷ 4 ∷ []) 0 0 (lead_at 1 1 false)
   unfolding extent power
   first = record {
@@ -92,7 +74,6 @@ module _ (laws : LevelLaws) where
     limit = λ rung. below_1 rung
         ∙ ap (λ (leads : ℕ). not (nat_lt 24 (rung + 8) || nat_lt 24 (rung + 8 + 8 * leads))) (sym (two_away laws (asks 1 24 1)));
     long = refl;
-    are = first_are;
   }
 
   second : IsRecord minimus minimus_numbers (1 ∷ 3 ∷ 4 ∷ 2 ∷ []) 0 1 (lead_at 2 9 false)
@@ -103,7 +84,6 @@ module _ (laws : LevelLaws) where
     limit = λ rung. below_9 rung
         ∙ ap (λ (leads : ℕ). not (nat_lt 24 (rung + 8) || nat_lt 24 (rung + 8 + 8 * leads))) (sym (one_away laws (asks 1 24 1)));
     long = refl;
-    are = second_are;
   }
 
   third : IsRecord minimus minimus_numbers (1 ∷ 4 ∷ 2 ∷ 3 ∷ []) 0 2 (lead_at 0 17 true)
@@ -114,7 +94,6 @@ module _ (laws : LevelLaws) where
     limit = λ rung. below_17 rung
         ∙ ap (λ (leads : ℕ). not (nat_lt 24 (rung + 8) || nat_lt 24 (rung + 8 + 8 * leads))) (sym (at_round laws (asks 1 24 1)));
     long = refl;
-    are = third_are;
   }
 
   each : (head step : ℕ) (d : LeadRecord) → head < 3 → step < 1
@@ -125,33 +104,23 @@ module _ (laws : LevelLaws) where
   each (suc (suc (suc head))) zero d head_in step_in = absurd (omega arith)
   each head (suc step) d head_in step_in = absurd (omega arith)
 
-  first_told : IsTold minimus minimus_numbers (lead_from minimus (1 ∷ 2 ∷ 3 ∷ 4 ∷ []) 0)
-  first_told zero zero head_in step_in = refl
-  first_told (suc zero) zero head_in step_in = refl
-  first_told (suc (suc zero)) zero head_in step_in = refl
-  first_told (suc (suc (suc head))) zero head_in step_in = absurd (omega arith)
-  first_told head (suc step) head_in step_in = absurd (omega arith)
+  -- a test of each lead
+  by_lead : (P : ℕ → ℕ → Type 0) → P 0 0 → P 1 0 → P 2 0 → (head step : ℕ) → head < 3 → step < 1 → P head step
+  by_lead P first second third zero zero head_in step_in = first
+  by_lead P first second third (suc zero) zero head_in step_in = second
+  by_lead P first second third (suc (suc zero)) zero head_in step_in = third
+  by_lead P first second third (suc (suc (suc head))) zero head_in step_in = absurd (omega arith)
+  by_lead P first second third head (suc step) head_in step_in = absurd (omega arith)
 
-  second_told : IsTold minimus minimus_numbers (lead_from minimus (1 ∷ 3 ∷ 4 ∷ 2 ∷ []) 0)
-  second_told zero zero head_in step_in = refl
-  second_told (suc zero) zero head_in step_in = refl
-  second_told (suc (suc zero)) zero head_in step_in = refl
-  second_told (suc (suc (suc head))) zero head_in step_in = absurd (omega arith)
-  second_told head (suc step) head_in step_in = absurd (omega arith)
+  abbrev tells_with : ℕ → ℕ → ℕ → ℕ → Type 0
+  tells_with place here head step = list_any (is_seen minimus_numbers (place ∷ [])) (numbers_of minimus_numbers (head * 1 + step))
+      ≡ list_any (is_listed (lead_from minimus (get_or minimus_numbers.heads here []) 0)) (lead_from minimus (get_or minimus_numbers.heads head []) step)
 
-  third_told : IsTold minimus minimus_numbers (lead_from minimus (1 ∷ 4 ∷ 2 ∷ 3 ∷ []) 0)
-  third_told zero zero head_in step_in = refl
-  third_told (suc zero) zero head_in step_in = refl
-  third_told (suc (suc zero)) zero head_in step_in = refl
-  third_told (suc (suc (suc head))) zero head_in step_in = absurd (omega arith)
-  third_told head (suc step) head_in step_in = absurd (omega arith)
-
-  told : (head step : ℕ) → head < 3 → step < 1 → IsTold minimus minimus_numbers (lead_from minimus (get_or minimus_numbers.heads head []) step)
-  told zero zero head_in step_in = first_told
-  told (suc zero) zero head_in step_in = second_told
-  told (suc (suc zero)) zero head_in step_in = third_told
-  told (suc (suc (suc head))) zero head_in step_in = absurd (omega arith)
-  told head (suc step) head_in step_in = absurd (omega arith)
+  told : (head step : ℕ) → head < 3 → step < 1 → IsTold minimus minimus_numbers ((head * 1 + step) ∷ []) (lead_from minimus (get_or minimus_numbers.heads head []) step)
+  told = by_lead (λ head step. IsTold minimus minimus_numbers ((head * 1 + step) ∷ []) (lead_from minimus (get_or minimus_numbers.heads head []) step))
+      (record { first = refl; each = by_lead (tells_with 0 0) refl refl refl })
+      (record { first = refl; each = by_lead (tells_with 1 1) refl refl refl })
+      (record { first = refl; each = by_lead (tells_with 2 2) refl refl refl })
 
   pub numbered : IsNumbered minimus minimus_numbers
   numbered = record {
@@ -160,7 +129,6 @@ module _ (laws : LevelLaws) where
     first_head = refl;
     staged = heads_staged;
     some_row = lit< tt;
-    first_row = refl;
     within = (all_decided (λ (n : ℕ). nat_lt n 3) (λ (n : ℕ). n < 3) (λ n. Decides-ltb n 3) minimus_numbers.numbers).0 refl;
     each = each;
     told = told;
@@ -169,11 +137,18 @@ module _ (laws : LevelLaws) where
   }
 
 -- two leads that have rows in common
-pub first_told_of : IsTold called (called_numbers 0) (lead_from called (rounds 4) 1)
-first_told_of zero zero head_in step_in = refl
-first_told_of zero (suc zero) head_in step_in = refl
-first_told_of zero (suc (suc step)) head_in step_in = absurd (omega arith)
-first_told_of (suc head) step head_in step_in = absurd (omega arith)
+pub first_told_of : IsTold called (called_numbers 0) (1 ∷ []) (lead_from called (rounds 4) 1)
+first_told_of = record { first = refl; each = each_told }
+  where
+    each_told : (head step : ℕ) → head < 1 → step < 2 → list_any (is_seen (called_numbers 0) (1 ∷ [])) (numbers_of (called_numbers 0) (head * 2 + step))
+        ≡ list_any (is_listed (lead_from called (rounds 4) 1)) (lead_from called (get_or (called_numbers 0).heads head []) step)
+    each_told zero zero head_in step_in = refl
+    each_told zero (suc zero) head_in step_in = refl
+    each_told zero (suc (suc step)) head_in step_in = absurd (omega arith)
+    each_told (suc head) step head_in step_in = absurd (omega arith)
 
-pub last_left_out : IsTold called (called_numbers 1) (lead_from called (rounds 4) 1) → ⊥
-last_left_out told = false≢true (sym (told 0 0 (lit< tt) (lit< tt)))
+pub last_left_out : IsTold called (called_numbers 1) (1 ∷ []) (lead_from called (rounds 4) 1) → ⊥
+last_left_out told = false≢true (told.each 0 0 (lit< tt) (lit< tt))
+
+pub round_left_out : IsTold called (called_numbers 0) (0 ∷ []) (lead_from called (rounds 4) 1) → ⊥
+round_left_out told = false≢true told.first

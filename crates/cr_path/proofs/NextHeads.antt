@@ -1,5 +1,5 @@
 -- Which head each step leads to, by numbers.
-use Rattle.std.proofs.Common.{◌≡◌, ℕ, zero, suc, ◌+◌, ◌*◌, ◌/◌, ◌%◌, ◌<◌, true, false, List, [], ◌∷◌, length, get_or, map, All, nat_eq, nat_lt, refl, sym, ap, ◌∙◌, subst, arith, lit<}
+use Rattle.std.proofs.Common.{◌≡◌, ℕ, zero, suc, ◌+◌, ◌*◌, ◌/◌, ◌%◌, ◌<◌, true, List, [], ◌∷◌, length, get_or, map, All, nat_eq, nat_lt, refl, sym, ap, ◌∙◌, subst, arith, lit<}
 use Rattle.std.specs.List.{list_all}
 use Rattle.std.proofs.lemmas.Bool.Decides.{Decides-eqb, Decides-ltb}
 use Rattle.std.proofs.lemmas.List.{length-map, get_or-map}
@@ -10,16 +10,13 @@ use Rattle.cr_model.specs.Examples.{minimus}
 use Rattle.cr_model.proofs.Deciding.{all_decided}
 use Rattle.cr_path.specs.declared.numbers.table.LeadRecord.{LeadRecord}
 use Rattle.cr_path.specs.Examples.{minimus_numbers, called}
-use Rattle.cr_path.specs.Numbers.{NumberParts, head_after, next_head, IsBase, IsNumbered, AreKept, AreNextHeads}
+use Rattle.cr_path.specs.Numbers.{NumberParts, head_after, no_record, next_head, IsBase, IsNumbered, AreKept, AreNextHeads}
 use Rattle.cr_path.proofs.Places.{record_within, number_is}
 
 -- of a table's records the heads after the leads
 module _ (p : ProblemParts) (t : NumberParts) (kept : AreKept t) (numbered : IsNumbered p t) where
   abbrev next : List ℕ
   next = map (next_head t.steps) t.records
-
-  no_record : LeadRecord
-  no_record = record { next = 0; limit = 0; length = 0; round = false }
 
   -- where the records of the head after a lead start
   starts : (head step : ℕ) (d : LeadRecord) → head < length t.heads → step < t.steps

@@ -13,13 +13,11 @@ use Rattle.cr_model.specs.Queries.{repeated}
 use Rattle.cr_model.proofs.Below.{words}
 use Rattle.cr_model.proofs.Ringing.{rows_from-append, last_of-append, changes-append, rung_from, product_of_rounds}
 use Rattle.cr_path.specs.declared.numbers.table.LeadRecord.{LeadRecord}
-use Rattle.cr_path.specs.Marks.{some_marked, AreOf}
-use Rattle.cr_path.specs.Numbers.{NumberParts, lead_from, head_after, numbers_of, IsBase, IsRecord, IsTold, IsNumbered}
+use Rattle.cr_path.specs.Marks.{some_marked, TellOf}
+use Rattle.cr_path.specs.Numbers.{NumberParts, lead_from, head_after, numbers_of, IsBase, IsRecord, IsNumbered}
 use Rattle.cr_path.specs.Parts.{IsHead, HasHead, IsPassed, Passes}
 use Rattle.cr_path.proofs.Children.{row_laws}
-use Rattle.cr_path.proofs.Listed.{some_are}
-use Rattle.cr_path.proofs.Marking.{within_in}
-use Rattle.cr_path.proofs.Places.{record_at, told_at}
+use Rattle.cr_path.proofs.Places.{record_at, tell_at}
 
 -- equal words, numbered from any number, and joined
 same_words : (a b number : ℕ) (word : List ℕ) → words a number word ≡ words b number word
@@ -50,7 +48,7 @@ last_of-map f row [] = refl
 last_of-map f row (next ∷ rows) = last_of-map f next rows
 
 -- a lead from a row of the stage, by changes
-lead_rung : (p : ProblemParts) (row : List ℕ) (step : ℕ) → length row ≡ p.stage → rows_from row (changes_of p step) ≡ lead_from p row step
+pub lead_rung : (p : ProblemParts) (row : List ℕ) (step : ℕ) → length row ≡ p.stage → rows_from row (changes_of p step) ≡ lead_from p row step
 lead_rung p row step long =
     rung_from row_laws.after_product row_laws.rounds_right p.stage row (changes_of p step) long
     ∙ ap (λ changes. map (product row) (rows_from (rounds p.stage) changes)) (sym (append-nil (changes_of p step)))
@@ -107,12 +105,11 @@ module _ (p : ProblemParts) (t : NumberParts) (numbered : IsNumbered p t) (row :
   pub next_head : (lead : LeadRecord) → lead ≡ get_or t.records place lead → HasHead p t lead.next
   next_head lead found = record { row = last_of row (rows_from row (changes_of p step)); is = next_is lead found }
 
-  module _ (rows : List (List ℕ)) (marks : List Bool) (told : IsTold p t rows) (are : AreOf t rows marks) (numbers : List ℕ) (its : numbers ≡ numbers_of t place) where
+  module _ (rows : List (List ℕ)) (marks : List Bool) (tell : TellOf p t rows marks) (numbers : List ℕ) (its : numbers ≡ numbers_of t place) where
     any_told : some_marked marks numbers ≡ list_any (is_listed rows) (rows_from row (changes_of p step))
     any_told =
         ap (some_marked marks) (its ∙ ap (numbers_of t) place_is)
-        ∙ some_are t.rows rows marks (numbers_of t (base + step)) are (within_in p t numbered (base + step))
-        ∙ sym (told_at t row base is.from step p numbered inside rows told)
+        ∙ tell_at t row base is.from step p numbered inside rows marks tell
         ∙ ap (list_any (is_listed rows)) (sym (lead_rung p row step is.long))
 
     -- a lead of which no row is marked, and one of which a row is

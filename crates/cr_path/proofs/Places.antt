@@ -1,13 +1,13 @@
 -- Where the record of a head and a step stands.
-use Rattle.std.proofs.Common.{◌≡◌, ℕ, ◌+◌, ◌*◌, ◌/◌, ◌<◌, ◌≤◌, List, [], length, get_or, map, sym, ap, ◌∙◌, subst, arith}
+use Rattle.std.proofs.Common.{◌≡◌, ℕ, ◌+◌, ◌*◌, ◌/◌, ◌<◌, ◌≤◌, Bool, List, [], ◌∷◌, length, get_or, sym, ap, ◌∙◌, subst, arith}
 use Rattle.std.specs.List.{list_any}
 use Rattle.std.proofs.lemmas.Nat.{row_fits, div-mul-add}
 use Rattle.cr_row.specs.Rows.{rounds}
 use Rattle.cr_model.specs.Problems.{ProblemParts}
 use Rattle.cr_model.specs.Levels.{is_listed}
 use Rattle.cr_path.specs.declared.numbers.table.LeadRecord.{LeadRecord}
-use Rattle.cr_path.specs.Marks.{row_at}
-use Rattle.cr_path.specs.Numbers.{NumberParts, lead_from, head_after, numbers_of, IsBase, StartsHead, IsRecord, IsTold, IsNumbered}
+use Rattle.cr_path.specs.Marks.{some_marked, TellOf}
+use Rattle.cr_path.specs.Numbers.{NumberParts, lead_from, head_after, numbers_of, is_seen, IsBase, StartsHead, IsRecord, IsTold, IsNumbered}
 
 pub record_within : (head step heads steps : ℕ) → head < heads → step < steps → head * steps + step < heads * steps
 record_within head step heads steps low within =
@@ -62,15 +62,24 @@ module _ (t : NumberParts) (row : List ℕ) (base : ℕ) (from : IsBase t row ba
           (subst (λ (head : List ℕ). IsRecord p t head step place (get_or t.records place d)) from.is
           (numbered.each from.number step d from.numbered tabled)))
 
-      pub lead_is_told : IsTold p t (lead_from p row step)
-      lead_is_told = subst (λ (head : List ℕ). IsTold p t (lead_from p head step)) from.is (numbered.told from.number step from.numbered tabled)
+      pub lead_is_told : IsTold p t ((base + step) ∷ []) (lead_from p row step)
+      lead_is_told =
+          subst (λ (n : ℕ). IsTold p t (n ∷ []) (lead_from p row step)) (sym place_is)
+          (subst (λ (head : List ℕ). IsTold p t (place ∷ []) (lead_from p head step)) from.is (numbered.told from.number step from.numbered tabled))
 
-      pub told_at : (rows : List (List ℕ)) → IsTold p t rows
-          → list_any (is_listed rows) (lead_from p row step) ≡ list_any (is_listed rows) (map (row_at t) (numbers_of t (base + step)))
-      told_at rows told =
-          ap (λ (head : List ℕ). list_any (is_listed rows) (lead_from p head step)) (sym from.is)
-          ∙ told from.number step from.numbered tabled
-          ∙ ap (λ (n : ℕ). list_any (is_listed rows) (map (row_at t) (numbers_of t n))) (sym place_is)
+      pub told_at : (places : List ℕ) (rows : List (List ℕ)) → IsTold p t places rows
+          → list_any (is_seen t places) (numbers_of t (base + step)) ≡ list_any (is_listed rows) (lead_from p row step)
+      told_at places rows told =
+          ap (λ (n : ℕ). list_any (is_seen t places) (numbers_of t n)) place_is
+          ∙ told.each from.number step from.numbered tabled
+          ∙ ap (λ (head : List ℕ). list_any (is_listed rows) (lead_from p head step)) from.is
+
+      pub tell_at : (rows : List (List ℕ)) (marks : List Bool) → TellOf p t rows marks
+          → some_marked marks (numbers_of t (base + step)) ≡ list_any (is_listed rows) (lead_from p row step)
+      tell_at rows marks tell =
+          ap (λ (n : ℕ). some_marked marks (numbers_of t n)) place_is
+          ∙ tell from.number step from.numbered tabled
+          ∙ ap (λ (head : List ℕ). list_any (is_listed rows) (lead_from p head step)) from.is
 
 -- the records of the head after a lead start where its record says
 pub next_start : (p : ProblemParts) (t : NumberParts) → IsNumbered p t → (row : List ℕ) (base step place : ℕ) → IsBase t row base → step < length p.leads

@@ -1,76 +1,35 @@
 -- Leads that are rung, and how they grow by one.
-use Rattle.std.proofs.Common.{◌≡◌, ℕ, ◌+◌, ◌-◌, ◌*◌, ◌<◌, ◌≤◌, Bool, not, ◌&&◌, ◌||◌, nat_lt, nat_eq, List, [], ◌∷◌, ◌++◌, length, get_or, map, take, drop, inl, inr, refl, sym, ap, ap₂, ◌∙◌, subst, arith, length-append}
+use Rattle.std.proofs.Common.{◌≡◌, ℕ, ◌+◌, ◌-◌, ◌*◌, ◌<◌, ◌≤◌, not, nat_lt, List, [], ◌∷◌, ◌++◌, length, get_or, map, take, drop, inl, inr, sym, ap, ap₂, ◌∙◌, subst, arith, length-append}
 use Rattle.std.specs.Prelude.{All}
-use Rattle.std.specs.Cmp.Lexicographic.{pointwise}
-use Rattle.std.specs.List.{list_any}
 use Rattle.std.proofs.lemmas.Bool.{cases_eq, cases_lt}
-use Rattle.std.proofs.lemmas.Bool.Decides.{same_from_decides, Decides-like, Decides-eqb}
-use Rattle.std.proofs.lemmas.Slice.Eq.{bytes_eq-Decides}
 use Rattle.std.proofs.lemmas.Nat.{same_from_place, row_fits}
-use Rattle.std.proofs.lemmas.List.{take-map, drop-map, length-map, get_or_append_left, get_or_push, drop-append-le, take-append-le, length-drop, drop_at, take_all}
-use Rattle.std.proofs.lemmas.List.Elements.{All-head, All-tail, All-take, All-drop, All-append, All-push, All-weaker, All-same}
-use Rattle.cr_row.specs.Rows.{rounds}
+use Rattle.std.proofs.lemmas.List.{length-map, get_or_append_left, get_or_push, drop-append-le, take-append-le, length-drop, drop_at, take_all}
+use Rattle.std.proofs.lemmas.List.Elements.{All-take, All-drop, All-append, All-push, All-weaker, All-same}
 use Rattle.cr_model.specs.Problems.{ProblemParts}
 use Rattle.cr_model.specs.Callings.{lead_length}
-use Rattle.cr_model.specs.Dead.{parts_of, has_rounds}
+use Rattle.cr_model.specs.Sizes.{child}
 use Rattle.cr_rowset.specs.Stacks.{AllDiffer}
-use Rattle.cr_path.specs.Numbers.{lead_from, head_after, brings_round, dies_after}
-use Rattle.cr_path.specs.Rung.{RungParts, IsHeld, IsRungLead, IsRung}
+use Rattle.cr_path.specs.Numbers.{head_after, dies_after}
+use Rattle.cr_path.specs.Rung.{RungParts, IsHeld, told_from, IsReached, IsRungLead, IsRung}
 use Rattle.cr_path.specs.RungLeads.{IsKept, HasNumber, AreNumbered, IsBegun}
-use Rattle.cr_path.specs.Leads.{has_first}
 use Rattle.cr_path.specs.declared.numbers.rung_leads.RungLead.{RungLead}
-use Rattle.cr_path.proofs.Children.{lead_long}
+use Rattle.cr_path.proofs.Children.{child_head}
 use Rattle.cr_path.proofs.Places.{record_within}
 use Rattle.cr_path.proofs.Grown.{kept_by, heads_more, same_rows, all_kept}
 
--- rounds stands among rows exactly where number 0 does among their numbers
-module _ (p : ProblemParts) (rows : List (List ℕ)) (some : 0 < length rows) (first : get_or rows 0 [] ≡ rounds p.stage) (differ : AllDiffer rows) where
-  abbrev at : ℕ → List ℕ
-  at number = get_or rows number []
-
-  one_first : (number : ℕ) → number < length rows → nat_eq 0 number ≡ pointwise nat_eq (rounds p.stage) (at number)
-  one_first number low = same_from_decides (nat_eq 0 number) (pointwise nat_eq (rounds p.stage) (at number)) (Decides-eqb 0 number)
-      (Decides-like (pointwise nat_eq (rounds p.stage) (at number))
-      (λ same. elim (cases_eq 0 number) [
-        | inl zero ↦ zero
-        | inr away ↦ absurd (differ 0 number (omega (arith, away)) low (first ∙ same))
-      ])
-      (λ zero. sym first ∙ ap at zero)
-      (bytes_eq-Decides (rounds p.stage) (at number)))
-
-  some_first : (numbers : List ℕ) → All (λ number. number < length rows) numbers → list_any (nat_eq 0) numbers ≡ has_rounds p (map at numbers)
-  some_first [] all = refl
-  some_first (number ∷ numbers) all =
-      ap₂ (λ (a b : Bool). a || b)
-      (one_first number (All-head (λ n. n < length rows) number numbers all))
-      (some_first numbers (All-tail (λ n. n < length rows) number numbers all))
-
-  pub first_told : (numbers : List ℕ) → All (λ number. number < length rows) numbers → has_first p numbers ≡ brings_round p (map at numbers)
-  first_told numbers all =
-      let place : length (map at numbers) ≡ length numbers = length-map numbers at in
-      let front : list_any (nat_eq 0) (take (length numbers - 1) numbers) ≡ has_rounds p (take (length (map at numbers) - 1) (map at numbers)) =
-      some_first (take (length numbers - 1) numbers) (All-take (λ n. n < length rows) (length numbers - 1) numbers all)
-      ∙ ap (has_rounds p) (sym (take-map at (length numbers - 1) numbers) ∙ ap (λ n. take (n - 1) (map at numbers)) (sym place)) in
-      let back : list_any (nat_eq 0) (drop (length numbers - 1) numbers) ≡ has_rounds p (drop (length (map at numbers) - 1) (map at numbers)) =
-      some_first (drop (length numbers - 1) numbers) (All-drop (λ n. n < length rows) (length numbers - 1) numbers all)
-      ∙ ap (has_rounds p) (sym (drop-map at (length numbers - 1) numbers) ∙ ap (λ n. drop (n - 1) (map at numbers)) (sym place)) in
-      ap₂ (λ (a b : Bool). a || (b && nat_lt 1 (parts_of p))) front back
-
--- whether rows that were numbered bring rounds too early
-pub round_told : (p : ProblemParts) (old new : RungParts) (done start : ℕ) (rung : List (List ℕ)) → IsBegun p old done
-    → AreNumbered old.rows old.numbers rung new.rows new.numbers → AllDiffer new.rows → start ≡ length old.numbers
-    → has_first p (drop start new.numbers) ≡ brings_round p rung
-round_told p old new done start rung begun are differ start_is =
-    ap (λ (ns : List ℕ). has_first p (drop start ns)) are.joined
-    ∙ ap (has_first p) (drop_at old.numbers are.more start (sym start_is))
-    ∙ first_told p new.rows (omega (arith, begun.some_row, are.kept.long)) (are.kept.same 0 begun.some_row ∙ begun.first_row) differ are.more are.within
-    ∙ ap (brings_round p) are.are
+-- the head after a lead is reached
+pub reached_after : (p : ProblemParts) (head : List ℕ) (step : ℕ) → IsReached p head → step < length p.leads → IsReached p (head_after p head step)
+reached_after p head step reached inside = record {
+  calling = child reached.calling step;
+  steps = All-push (λ s. s < length p.leads) reached.calling step reached.steps inside;
+  is = ap (λ (h : List ℕ). head_after p h step) reached.is ∙ sym (child_head p reached.calling step);
+}
 
 -- a record stays one while heads, rows and numbers are added
-pub record_kept : (p : ProblemParts) (old new : RungParts) (more head : List ℕ) (step : ℕ) (lead : RungLead) → IsKept old.heads new.heads
+pub record_kept : (p : ProblemParts) (told : List (List (List ℕ))) (old new : RungParts) (more head : List ℕ) (step : ℕ) (lead : RungLead) → IsKept old.heads new.heads
     → IsKept old.rows new.rows → new.numbers ≡ old.numbers ++ more → All (λ number. number < length old.rows) old.numbers
-    → IsRungLead p old head step lead → IsRungLead p new head step lead
-record_kept p old new more head step lead heads rows numbers all is =
+    → IsRungLead p told old head step lead → IsRungLead p told new head step lead
+record_kept p told old new more head step lead heads rows numbers all is =
     let from : lead.start ≤ length old.numbers = omega (arith, is.held.0, is.held.1) in
     let to : lead.end - lead.start ≤ length (drop lead.start old.numbers) = omega (arith, is.held.0, is.held.1, length-drop lead.start old.numbers) in
     let mine : take (lead.end - lead.start) (drop lead.start new.numbers) ≡ take (lead.end - lead.start) (drop lead.start old.numbers) =
@@ -91,28 +50,29 @@ record_kept p old new more head step lead heads rows numbers all is =
     }
 
 -- a lead that is rung from a head, its rows and the head after it with their numbers
-pub record RingsLead (p : ProblemParts) (old new : RungParts) (head : List ℕ) (step : ℕ) (lead : RungLead) : Type 0 where
+pub record RingsLead (p : ProblemParts) (told : List (List (List ℕ))) (old new : RungParts) (head : List ℕ) (step : ℕ) (lead : RungLead) : Type 0 where
   pub steps : new.steps ≡ old.steps
-  pub rows : AreNumbered old.rows old.numbers (lead_from p head step) new.rows new.numbers
+  pub rows : AreNumbered old.rows old.numbers (told_from p told head step) new.rows new.numbers
   pub differ : AllDiffer new.rows
   pub next : HasNumber old.heads (head_after p head step) lead.next new.heads
   pub long : length (head_after p head step) ≡ p.stage
+  pub reached : IsReached p (head_after p head step)
   pub start : lead.start ≡ length old.numbers
   pub end : lead.end ≡ length new.numbers
   pub limit : (rung : ℕ) → nat_lt rung lead.limit ≡ not (dies_after p head step rung)
   pub counted : lead.length ≡ lead_length p step
-  pub some : 0 < lead.length
+  pub some : 0 < length (told_from p told head step)
   pub records : new.records ≡ old.records ++ lead ∷ []
 
 -- it has a row
-some_more : (p : ProblemParts) (old new : RungParts) (head : List ℕ) (step : ℕ) (lead : RungLead) → (is : RingsLead p old new head step lead) → 0 < length is.rows.more
-some_more p old new head step lead is =
-    omega (arith, is.some, is.counted, lead_long p head step, ap length is.rows.are, length-map is.rows.more (λ number. get_or new.rows number []))
+some_more : (p : ProblemParts) (told : List (List (List ℕ))) (old new : RungParts) (head : List ℕ) (step : ℕ) (lead : RungLead) → (is : RingsLead p told old new head step lead) → 0 < length is.rows.more
+some_more p told old new head step lead is =
+    omega (arith, is.some, ap length is.rows.are, length-map is.rows.more (λ number. get_or new.rows number []))
 
 -- it is a record
-pub rung_record : (p : ProblemParts) (old new : RungParts) (head : List ℕ) (step : ℕ) (lead : RungLead) → RingsLead p old new head step lead
-    → IsRungLead p new head step lead
-rung_record p old new head step lead is =
+pub rung_record : (p : ProblemParts) (told : List (List (List ℕ))) (old new : RungParts) (head : List ℕ) (step : ℕ) (lead : RungLead) → RingsLead p told old new head step lead
+    → IsRungLead p told new head step lead
+rung_record p told old new head step lead is =
     let long : length new.numbers ≡ length old.numbers + length is.rows.more = ap length is.rows.joined ∙ length-append old.numbers is.rows.more in
     let mine : take (lead.end - lead.start) (drop lead.start new.numbers) ≡ is.rows.more =
     ap (λ (ns : List ℕ). take (lead.end - lead.start) (drop lead.start ns)) is.rows.joined
@@ -123,7 +83,7 @@ rung_record p old new head step lead is =
       leads_to = is.next.stands.is;
       limit = is.limit;
       long = is.counted;
-      held = (omega (arith, is.start, is.end, long, some_more p old new head step lead is), omega (arith, is.end));
+      held = (omega (arith, is.start, is.end, long, some_more p told old new head step lead is), omega (arith, is.end));
       are = ap (map (λ number. get_or new.rows number [])) mine ∙ is.rows.are;
     }
 
@@ -137,16 +97,16 @@ row_inside other its place step heads steps place_in step_in earlier = elim (cas
 ]
 
 -- with it the numbers have one record more
-pub begun_more : (p : ProblemParts) (old new : RungParts) (place step done : ℕ) (lead : RungLead) → IsBegun p old done
+pub begun_more : (p : ProblemParts) (told : List (List (List ℕ))) (old new : RungParts) (place step done : ℕ) (lead : RungLead) → IsBegun p told old done
     → done ≡ place * old.steps + step → place < length old.heads → step < old.steps
-    → RingsLead p old new (get_or old.heads place []) step lead → IsBegun p new (done + 1)
-begun_more p old new place step done lead begun at place_in step_in is =
+    → RingsLead p told old new (get_or old.heads place []) step lead → IsBegun p told new (done + 1)
+begun_more p told old new place step done lead begun at place_in step_in is =
     let heads : IsKept old.heads new.heads = kept_by old.heads new.heads (head_after p (get_or old.heads place []) step) lead.next is.next in
     let rows = is.rows.kept in
     let more : length old.numbers ≤ length new.numbers = omega (arith, ap length is.rows.joined, length-append old.numbers is.rows.more) in
     record {
       counted = is.steps ∙ begun.counted;
-      heads = heads_more p old.heads new.heads (head_after p (get_or old.heads place []) step) lead.next begun.heads is.next is.long;
+      heads = heads_more p old.heads new.heads (head_after p (get_or old.heads place []) step) lead.next begun.heads is.next is.long is.reached;
       some_row = omega (arith, begun.some_row, rows.long);
       first_row = rows.same 0 begun.some_row ∙ begun.first_row;
       differ = is.differ;
@@ -156,7 +116,7 @@ begun_more p old new place step done lead begun at place_in step_in is =
       held = All-same (IsHeld (length new.numbers)) new.records (old.records ++ lead ∷ []) is.records
           (All-push (IsHeld (length new.numbers)) old.records lead
           (All-weaker (IsHeld (length old.numbers)) (IsHeld (length new.numbers)) (λ other held. (held.0, omega (arith, held.1, more))) old.records begun.held)
-          (omega (arith, is.start, is.end, ap length is.rows.joined, length-append old.numbers is.rows.more, some_more p old new (get_or old.heads place []) step lead is), omega (arith, is.end)));
+          (omega (arith, is.start, is.end, ap length is.rows.joined, length-append old.numbers is.rows.more, some_more p told old new (get_or old.heads place []) step lead is), omega (arith, is.end)));
       each = λ other its d head_in its_in low.
           let known : its < old.steps = omega (arith, its_in, is.steps) in
           let index : other * new.steps + its ≡ other * old.steps + its = ap (λ n. other * n + its) is.steps in
@@ -168,10 +128,10 @@ begun_more p old new place step done lead begun at place_in step_in is =
                 ∙ get_or_push old.records lead d done begun.recorded) in
                 let from : get_or old.heads place [] ≡ get_or new.heads other [] =
                 sym (heads.same place place_in) ∙ ap (λ n. get_or new.heads n []) (sym same.0) in
-                subst (λ (r : RungLead). IsRungLead p new (get_or new.heads other []) its r) here
-                (subst (λ (h : List ℕ). IsRungLead p new h its lead) from
-                (subst (λ (s : ℕ). IsRungLead p new (get_or old.heads place []) s lead) (sym same.1)
-                (rung_record p old new (get_or old.heads place []) step lead is)))
+                subst (λ (r : RungLead). IsRungLead p told new (get_or new.heads other []) its r) here
+                (subst (λ (h : List ℕ). IsRungLead p told new h its lead) from
+                (subst (λ (s : ℕ). IsRungLead p told new (get_or old.heads place []) s lead) (sym same.1)
+                (rung_record p told old new (get_or old.heads place []) step lead is)))
             | inr earlier ↦
                 let below : other * old.steps + its < done = omega (arith, low, index, earlier) in
                 let inside : other < length old.heads = row_inside other its place step (length old.heads) old.steps place_in step_in (omega (arith, below, at)) in
@@ -179,20 +139,21 @@ begun_more p old new place step done lead begun at place_in step_in is =
                 sym (ap₂ (λ (xs : List RungLead) (n : ℕ). get_or xs n d) is.records index
                 ∙ get_or_append_left old.records (lead ∷ []) d (other * old.steps + its) (omega (arith, below, begun.recorded))) in
                 let from : get_or old.heads other [] ≡ get_or new.heads other [] = sym (heads.same other inside) in
-                subst (λ (r : RungLead). IsRungLead p new (get_or new.heads other []) its r) here
-                (subst (λ (h : List ℕ). IsRungLead p new h its (get_or old.records (other * old.steps + its) d)) from
-                (record_kept p old new is.rows.more (get_or old.heads other []) its (get_or old.records (other * old.steps + its) d) heads rows
+                subst (λ (r : RungLead). IsRungLead p told new (get_or new.heads other []) its r) here
+                (subst (λ (h : List ℕ). IsRungLead p told new h its (get_or old.records (other * old.steps + its) d)) from
+                (record_kept p told old new is.rows.more (get_or old.heads other []) its (get_or old.records (other * old.steps + its) d) heads rows
                 is.rows.joined begun.within (begun.each other its d inside known below)))
           ];
     }
 
 -- with a record of each lead they are rung from all heads
-pub rung_whole : (p : ProblemParts) (t : RungParts) (done : ℕ) → IsBegun p t done → done ≡ length t.heads * t.steps → IsRung p t
-rung_whole p t done begun all = record {
+pub rung_whole : (p : ProblemParts) (told : List (List (List ℕ))) (t : RungParts) (done : ℕ) → IsBegun p told t done → done ≡ length t.heads * t.steps → IsRung p told t
+rung_whole p told t done begun all = record {
   counted = begun.counted;
   some_head = begun.heads.some;
   first_head = begun.heads.first;
   staged = begun.heads.staged;
+  reached = begun.heads.reached;
   some_row = begun.some_row;
   first_row = begun.first_row;
   differ = begun.differ;

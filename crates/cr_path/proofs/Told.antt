@@ -1,24 +1,29 @@
 -- Representative rows of leads that were rung are numbers of the problem.
-use Rattle.std.proofs.Common.{◌≡◌, ℕ, ◌+◌, ◌-◌, ◌*◌, ◌<◌, Bool, true, false, nat_eq, nat_lt, List, [], length, get_or, map, take, drop, refl, sym, ap, ap₂, ◌∙◌, subst, arith, eq-eqb, eqb-true}
+use Rattle.std.proofs.Common.{◌≡◌, ℕ, ◌+◌, ◌-◌, ◌*◌, ◌<◌, Bool, true, false, nat_eq, nat_lt, List, [], ◌∷◌, length, get_or, map, take, drop, refl, sym, ap, ap₂, ◌∙◌, subst, arith, eq-eqb, eqb-true}
 use Rattle.std.specs.Prelude.{All}
 use Rattle.std.specs.List.{list_any}
 use Rattle.std.proofs.lemmas.List.{get_or-map}
 use Rattle.std.proofs.lemmas.List.Elements.{All-take, All-drop, All-weaker}
+use Rattle.cr_row.specs.Rows.{rounds}
 use Rattle.cr_model.specs.Problems.{ProblemParts}
 use Rattle.cr_model.specs.Levels.{is_listed}
+use Rattle.cr_leads.specs.Tables.{lead_table}
+use Rattle.cr_false.specs.Telling.{AreTelling}
 use Rattle.cr_rowset.specs.Pushing.{StandsAt}
 use Rattle.cr_path.specs.Covers.{CoversItself, IsCovered, StaysWithin, IsCover}
-use Rattle.cr_path.specs.Numbers.{NumberParts, lead_from, all_fitting, comes_round, IsRecord, IsTold, IsNumbered}
+use Rattle.cr_path.specs.Numbers.{NumberParts, lead_from, all_fitting, comes_round, is_seen, IsRecord, IsTold, IsNumbered}
 use Rattle.cr_path.specs.PathLimits.{false_leads}
-use Rattle.cr_path.specs.Rung.{RungParts, rung_numbers, IsRungLead, IsRung}
+use Rattle.cr_path.specs.Rung.{RungParts, rung_numbers, told_from, IsReached, IsRungLead, IsRung}
 use Rattle.cr_path.specs.Representatives.{AreRepresentatives, AreSame, name_of, HasName, IsLike, AreLike, AreNamed}
 use Rattle.cr_path.specs.declared.numbers.rung_leads.RungLead.{RungLead}
 use Rattle.cr_path.specs.declared.numbers.table.LeadRecord.{LeadRecord}
 use Rattle.cr_path.proofs.Covering.{both_pass, IsAmong, holds_among, any_from, any_at, among_listed, listed_among}
 use Rattle.cr_path.proofs.Names.{no_lead}
+use Rattle.cr_path.proofs.Listed.{seen_alone, any_same, any_mapped}
 use Rattle.cr_path.proofs.Places.{record_within}
+use Rattle.cr_path.proofs.Telling.{rounds_told, shared_told}
 
-module _ (p : ProblemParts) (t : RungParts) (rung : IsRung p t) (cover : List ℕ) (covers : IsCover (length t.rows) t.numbers t.records cover)
+module _ (p : ProblemParts) (told_rows : List (List (List ℕ))) (tells : AreTelling (lead_table p) told_rows) (t : RungParts) (rung : IsRung p told_rows t) (cover : List ℕ) (covers : IsCover (length t.rows) t.numbers t.records cover)
     (representatives : List (List ℕ)) (places : List ℕ) (told : AreRepresentatives t.rows cover representatives places (length t.rows)) where
   abbrev at : ℕ → List ℕ
   at n = get_or t.rows n []
@@ -104,7 +109,7 @@ module _ (p : ProblemParts) (t : RungParts) (rung : IsRung p t) (cover : List �
       (named : AreNamed t.numbers name (length representatives) width t.records names) (twice_is : twice ≡ false_leads p (length p.leads))
       (fittings : List (List ℕ)) (fitting : fittings ≡ map (all_fitting p t.heads) p.query.patterns) where
     abbrev whole : NumberParts
-    whole = record { steps = t.steps; heads = t.heads; rows = representatives; records = records; width = width; numbers = names; twice = twice; fittings = fittings }
+    whole = record { steps = t.steps; heads = t.heads; rows = length representatives; records = records; width = width; numbers = names; twice = twice; fittings = fittings }
 
     -- the lead of a step from a head
     module _ (head step : ℕ) (head_in : head < length t.heads) (step_in : step < t.steps) where
@@ -127,7 +132,7 @@ module _ (p : ProblemParts) (t : RungParts) (rung : IsRung p t) (cover : List �
       numbers_stay : StaysWithin cover lead_numbers
       numbers_stay = covers.stays place no_lead low
 
-      is_rung : IsRungLead p t (get_or t.heads head []) step lead_rung
+      is_rung : IsRungLead p told_rows t (get_or t.heads head []) step lead_rung
       is_rung = rung.each head step no_lead head_in step_in
 
       are_named : AreSame (map name lead_numbers) (take width (drop (place * width) names))
@@ -147,35 +152,69 @@ module _ (p : ProblemParts) (t : RungParts) (rung : IsRung p t) (cover : List �
               ∙ get_or-map (comes_round p) t.heads lead_rung.next [] false is_rung.next ∙ ap (comes_round p) is_rung.leads_to;
           limit = λ changes. ap (nat_lt changes) is_like.limit ∙ is_rung.limit changes;
           long = is_like.long ∙ is_rung.long;
-          are = λ k inside. are_named.same k ∙ names_listed lead_numbers numbers_in numbers_stay k inside
-              ∙ ap (λ (rows : List (List ℕ)). is_listed rows (told_at k)) is_rung.are;
         }
 
-    lead_told : (head step : ℕ) → head < length t.heads → step < t.steps → IsTold p whole (lead_from p (get_or t.heads head []) step)
-    lead_told head step head_in step_in = λ other its other_in its_in.
-        let mine : map at (lead_numbers head step head_in step_in) ≡ lead_from p (get_or t.heads head []) step = (is_rung head step head_in step_in).are in
-        let theirs : map at (lead_numbers other its other_in its_in) ≡ lead_from p (get_or t.heads other []) its = (is_rung other its other_in its_in).are in
-        let names_now : List ℕ = take width (drop ((other * t.steps + its) * width) names) in
-        ap₂ (λ (rows more : List (List ℕ)). list_any (is_listed rows) more) (sym mine) (sym theirs)
-        ∙ names_tell (lead_numbers other its other_in its_in) (lead_numbers head step head_in step_in) names_now
-        (numbers_in other its other_in its_in) (numbers_in head step head_in step_in) (numbers_stay other its other_in its_in) (numbers_stay head step head_in step_in)
-        (are_named other its other_in its_in).same
-        ∙ ap (λ (rows : List (List ℕ)). list_any (is_listed rows) (map told_at names_now)) mine
+      -- its names
+      abbrev lead_names : List ℕ
+      lead_names = take width (drop (place * width) names)
+
+      names_in : All (λ n. n < length representatives) lead_names
+      names_in = All-take (λ n. n < length representatives) width (drop (place * width) names) (All-drop (λ n. n < length representatives) (place * width) names named.within)
+
+      -- a name is one of them where its row is one of those that tell the lead
+      names_are : (k : ℕ) → k < length representatives → is_seen whole (place ∷ []) k ≡ is_listed (told_from p told_rows (get_or t.heads head []) step) (told_at k)
+      names_are k inside =
+          seen_alone whole place k ∙ are_named.same k ∙ names_listed lead_numbers numbers_in numbers_stay k inside
+          ∙ ap (λ (rows : List (List ℕ)). is_listed rows (told_at k)) is_rung.are
+
+      step_known : step < length p.leads
+      step_known = subst (λ n. step < n) rung.counted step_in
+
+      head_reached : IsReached p (get_or t.heads head [])
+      head_reached = rung.reached head [] head_in
+
+    -- rounds is the first
+    some_representative : 0 < length representatives
+    some_representative =
+        let first = told.placed 0 rung.some_row covers.first.1 in
+        omega (arith, first.within, told.first rung.some_row)
+
+    first_is : told_at 0 ≡ rounds p.stage
+    first_is = ap told_at (sym (told.first rung.some_row)) ∙ (told.placed 0 rung.some_row covers.first.1).is ∙ rung.first_row
+
+    lead_told : (head step : ℕ) → head < length t.heads → step < t.steps → IsTold p whole ((head * t.steps + step) ∷ []) (lead_from p (get_or t.heads head []) step)
+    lead_told head step head_in step_in =
+        let here : List ℕ = get_or t.heads head [] in
+        let mine : map at (lead_numbers head step head_in step_in) ≡ told_from p told_rows here step = (is_rung head step head_in step_in).are in
+        let known : step < length p.leads = step_known head step head_in step_in in
+        record {
+          first = names_are head step head_in step_in 0 some_representative
+              ∙ ap (is_listed (told_from p told_rows here step)) first_is
+              ∙ rounds_told p told_rows tells here step known;
+          each = λ other its other_in its_in.
+              let there : List ℕ = get_or t.heads other [] in
+              let theirs : map at (lead_numbers other its other_in its_in) ≡ told_from p told_rows there its = (is_rung other its other_in its_in).are in
+              any_same (length representatives) (is_seen whole ((head * t.steps + step) ∷ [])) (λ k. is_listed (told_from p told_rows here step) (told_at k))
+              (lead_names other its other_in its_in) (names_are head step head_in step_in) (names_in other its other_in its_in)
+              ∙ any_mapped (is_listed (told_from p told_rows here step)) told_at (lead_names other its other_in its_in)
+              ∙ ap (λ (rows : List (List ℕ)). list_any (is_listed rows) (map told_at (lead_names other its other_in its_in))) (sym mine)
+              ∙ sym (names_tell (lead_numbers other its other_in its_in) (lead_numbers head step head_in step_in) (lead_names other its other_in its_in)
+              (numbers_in other its other_in its_in) (numbers_in head step head_in step_in) (numbers_stay other its other_in its_in) (numbers_stay head step head_in step_in)
+              (are_named other its other_in its_in).same)
+              ∙ ap₂ (λ (rows more : List (List ℕ)). list_any (is_listed rows) more) mine theirs
+              ∙ shared_told p told_rows tells here there step its (head_reached head step head_in step_in) (head_reached other its other_in its_in) known (step_known other its other_in its_in);
+        }
 
     pub told_whole : IsNumbered p whole
-    told_whole =
-        let first = told.placed 0 rung.some_row covers.first.1 in
-        let place : get_or places 0 0 ≡ 0 = told.first rung.some_row in
-        record {
-          counted = rung.counted;
-          some_head = rung.some_head;
-          first_head = rung.first_head;
-          staged = rung.staged;
-          some_row = omega (arith, first.within, place);
-          first_row = ap told_at (sym place) ∙ first.is ∙ rung.first_row;
-          within = named.within;
-          each = λ head step d head_in step_in. is_record head step head_in step_in d;
-          told = lead_told;
-          twice = twice_is;
-          fitting = fitting;
-        }
+    told_whole = record {
+      counted = rung.counted;
+      some_head = rung.some_head;
+      first_head = rung.first_head;
+      staged = rung.staged;
+      some_row = some_representative;
+      within = named.within;
+      each = λ head step d head_in step_in. is_record head step head_in step_in d;
+      told = lead_told;
+      twice = twice_is;
+      fitting = fitting;
+    }

@@ -1,11 +1,13 @@
 -- What a numbered walk keeps, a step on and a step back.
 use Rattle.std.proofs.Common.{◌≡◌, ℕ, zero, suc, ◌+◌, ◌-◌, ◌<◌, ◌≤◌, Bool, true, false, List, [], ◌∷◌, length, get_or, take, sym, ap, ◌∙◌, subst, inl, inr, refl, nat_eq, arith, All}
 use Rattle.std.specs.Prelude.{replicate}
+use Rattle.std.specs.List.{list_any}
 use Rattle.std.proofs.lemmas.Bool.{cases_Bool, cases_eq}
 use Rattle.std.proofs.lemmas.List.{length_push, get_or_push, length-replicate, get_or-replicate}
 use Rattle.cr_model.specs.Problems.{ProblemParts}
 use Rattle.cr_model.specs.Callings.{rows_of, head_of}
 use Rattle.cr_model.specs.Decided.{rows_differ}
+use Rattle.cr_model.specs.Levels.{is_listed}
 use Rattle.cr_model.specs.Nodes.{IsValid}
 use Rattle.cr_model.specs.Sizes.{child}
 use Rattle.cr_model.specs.Sound.{IsSound}
@@ -17,20 +19,17 @@ use Rattle.cr_path.specs.declared.numbers.table.LeadRecord.{LeadRecord}
 use Rattle.cr_path.specs.Counted.{IsCounted}
 use Rattle.cr_path.specs.Ends.{EndsParts, IsEnd, AreEnds, HasEnds}
 use Rattle.cr_path.specs.Marks.{MarksParts, AreSet, AreMarked, HasMarks}
-use Rattle.cr_path.specs.Numbers.{NumberParts, numbers_of, comes_round, IsBase, IsRecord, IsNumbered}
+use Rattle.cr_path.specs.Numbers.{NumberParts, lead_from, numbers_of, next_at, places_of, base_of, is_seen, comes_round, IsBase, IsRecord, IsNumbered}
 use Rattle.cr_path.specs.Sets.{AreUncut}
 use Rattle.cr_path.specs.Walks.{IsWalk, parent}
 use mir.Val.{bool_byte}
+use Rattle.cr_path.proofs.Chained.{base_more, next_is}
 use Rattle.cr_path.proofs.Children.{child_head, child_length, part_few, few_leads, valid_first, last_step}
 use Rattle.cr_path.proofs.Marking.{within_in, node_differs, none_unmarked, marked_more, marked_less, marked_same, marked_stays}
 use Rattle.cr_path.proofs.Places.{record_at, root_base}
 use Rattle.cr_path.proofs.ComingRound.{root_round}
 use Rattle.cr_query.proofs.StepBits.{none_of_zero}
 use Rattle.cr_path.proofs.Uncut.{none_left}
-
--- what is read past the last record
-pub no_record : LeadRecord
-no_record = record { next = 0; limit = 0; length = 0; round = false }
 
 -- before any lead
 abbrev pub root_end : LeadEnd
@@ -39,6 +38,7 @@ root_end = record { base = 0; rung = 0; left = 0; round = 1 }
 root_ends : (p : ProblemParts) (t : NumberParts) → IsNumbered p t → (i : ℕ) (d : LeadEnd) → i ≤ 0 → IsEnd p t (take i []) (get_or (root_end ∷ []) i d)
 root_ends p t numbered zero d within = record {
   from = root_base p t numbered;
+  by_records = refl;
   long = refl;
   round = root_round p;
 }
@@ -46,7 +46,7 @@ root_ends p t numbered (suc i) d within = absurd (omega (arith, within))
 
 pub root_walk : (p : ProblemParts) (leads : TableParts) (t : NumberParts) (counting : Counting) (free : Bool) → IsSound p → leads ≡ lead_table p → IsNumbered p t
     → IsCounted p [] counting → free ≡ turn_free p.query → (next : ℕ) → next ≡ length p.leads → (ends : EndsParts) → ends.last ≡ root_end
-    → IsWalk p leads t [] next ends (replicate (length t.rows) false) 0 counting free
+    → IsWalk p leads t [] next ends (replicate t.rows false) 0 counting free
 root_walk p leads t counting free sound table numbered counted free_is next all ends at_root = record {
   sound = sound;
   table = table;
@@ -66,8 +66,8 @@ root_walk p leads t counting free sound table numbered counted free_is next all 
     within = omega arith;
     are = record {
       within = omega arith;
-      counted = length-replicate (length t.rows) false;
-      of = λ number inside. get_or-replicate (length t.rows) number false false inside;
+      counted = length-replicate t.rows false;
+      of = λ number inside. get_or-replicate t.rows number false false inside;
       differ = refl;
       again = λ low. absurd (omega (arith, low));
     };
@@ -83,9 +83,11 @@ one_of false = refl
 
 -- the end of one lead more
 pub next_end : (p : ProblemParts) (t : NumberParts) (node : List ℕ) (step : ℕ) (end : LeadEnd) (lead : LeadRecord) (left round : ℕ) → IsEnd p t node end → IsRecord p t (head_of p node) step (end.base + step) lead
-    → round ≡ bool_byte lead.round → IsEnd p t (child node step) (record { base = lead.next; rung = end.rung + lead.length; left = left; round = round })
-next_end p t node step end lead left round at_end known round_is = record {
+    → round ≡ bool_byte lead.round → end.base + step < length t.records → lead ≡ get_or t.records (end.base + step) lead
+    → IsEnd p t (child node step) (record { base = lead.next; rung = end.rung + lead.length; left = left; round = round })
+next_end p t node step end lead left round at_end known round_is inside is = record {
   from = subst (λ (row : List ℕ). IsBase t row lead.next) (sym (child_head p node step)) known.next;
+  by_records = next_is t (end.base + step) lead lead inside is ∙ ap (λ b. next_at t (b + step)) at_end.by_records ∙ sym (base_more t 0 node step);
   long = omega (arith, at_end.long, known.long, child_length p node step);
   round = ap (λ n. nat_eq n 1) round_is ∙ one_of lead.round ∙ known.round ∙ ap (comes_round p) (sym (child_head p node step));
 }
@@ -121,16 +123,16 @@ module _ (p : ProblemParts) (leads : TableParts) (t : NumberParts) (node : List 
   pub have_marks : (place : ℕ) (numbers : List ℕ) → numbers ≡ numbers_of t place → All (λ number. number < length marks) numbers
   have_marks place numbers are =
       subst (λ n. All (λ number. number < n) numbers) (sym is.marked.are.counted)
-      (subst (λ list. All (λ number. number < length t.rows) list) (sym are) (within_in p t is.numbered place))
+      (subst (λ list. All (λ number. number < t.rows) list) (sym are) (within_in p t is.numbered place))
 
   pub few_unmarked : unmarked ≤ 1024
   few_unmarked = omega (arith, is.marked.within, few_leads p node is.sound is.valid)
 
   -- the marks of a child, where it is known whether its rows differ
-  pub marked_on : (step place : ℕ) (lead : LeadRecord) (numbers : List ℕ) (is_new : Bool) (next : MarksParts) → IsRecord p t (head_of p node) step place lead → numbers ≡ numbers_of t place →
+  pub marked_on : (step place : ℕ) (numbers : List ℕ) (is_new : Bool) (next : MarksParts) → place ≡ base_of t node + step → numbers ≡ numbers_of t place →
       is_new ≡ rows_differ (rows_of p (child node step)) → length next.marks ≡ length marks → (is_new ≡ true → AreSet true numbers marks next.marks × (next.unmarked ≡ unmarked))
       → (is_new ≡ false → next ≡ record { marks = marks; unmarked = unmarked + 1 }) → HasMarks p t (child node step) next.marks next.unmarked
-  marked_on step place lead numbers is_new next known are new long added same =
+  marked_on step place numbers is_new next here are new long added same =
       let more : length (child node step) ≡ length node + 1 = length_push node step in
       elim (cases_Bool is_new) [
         | inl fresh ↦
@@ -139,7 +141,7 @@ module _ (p : ProblemParts) (leads : TableParts) (t : NumberParts) (node : List 
             record {
               within = omega (arith, (added fresh).1, none);
               are = subst (AreMarked p t (child node step) next.marks) (omega (arith, more, none, (added fresh).1))
-                  (marked_more p t node step place lead known numbers are marks next.marks (length node - unmarked) is.marked.are long differ (added fresh).0);
+                  (marked_more p t node step place here numbers are marks next.marks (length node - unmarked) is.marked.are long differ (added fresh).0);
             }
         | inr twice ↦ subst (λ (m : MarksParts). HasMarks p t (child node step) m.marks m.unmarked) (sym (same twice)) (record {
           within = omega (arith, more, is.marked.within);
@@ -148,17 +150,18 @@ module _ (p : ProblemParts) (leads : TableParts) (t : NumberParts) (node : List 
       ]
 
   -- and back from a child
-  pub marked_back : (above : List ℕ) (step place : ℕ) (lead : LeadRecord) (numbers : List ℕ) (next : MarksParts) → node ≡ child above step → IsRecord p t (head_of p above) step place lead → numbers ≡ numbers_of t place →
+  pub marked_back : (above : List ℕ) (step place : ℕ) (numbers : List ℕ) (next : MarksParts) → node ≡ child above step → place ≡ base_of t above + step →
+      list_any (is_seen t (places_of t above)) (numbers_of t place) ≡ list_any (is_listed (rows_of p above)) (lead_from p (head_of p above) step) → numbers ≡ numbers_of t place →
       length next.marks ≡ length marks → (unmarked ≡ 0 → AreSet false numbers marks next.marks × (next.unmarked ≡ 0)) → (0 < unmarked → next ≡ record { marks = marks; unmarked = unmarked - 1 }) →
       HasMarks p t above next.marks next.unmarked
-  marked_back above step place lead numbers next whole known are long taken same =
+  marked_back above step place numbers next whole here told are long taken same =
       let before : HasMarks p t (child above step) marks unmarked = subst (λ word. HasMarks p t word marks unmarked) whole is.marked in
       let more : length (child above step) ≡ length above + 1 = length_push above step in
       elim (cases_eq unmarked 0) [
         | inl none ↦ record {
           within = omega (arith, (taken none).1);
           are = subst (AreMarked p t above next.marks) (omega (arith, (taken none).1))
-              (marked_less p t above step place lead known numbers are marks next.marks (length (child above step) - unmarked) before.are long (omega (arith, none)) (taken none).0);
+              (marked_less p t above step place here numbers are marks next.marks (length (child above step) - unmarked) before.are long told (omega (arith, none)) (taken none).0);
         }
         | inr some ↦ subst (λ (m : MarksParts). HasMarks p t above m.marks m.unmarked) (sym (same (omega (arith, some)))) (record {
           within = omega (arith, before.within, more, some);

@@ -2,7 +2,7 @@
 use Rattle.std.specs.Prelude.{◌≡◌, ℕ, nat_eq, ◌+◌, ◌-◌, ◌<◌, ◌≤◌, List, [], ◌∷◌, ◌++◌, length, get_or, take}
 use Rattle.cr_model.specs.Problems.{ProblemParts}
 use Rattle.cr_model.specs.Callings.{length_of, head_of}
-use Rattle.cr_path.specs.Numbers.{NumberParts, IsBase, comes_round}
+use Rattle.cr_path.specs.Numbers.{NumberParts, IsBase, base_of, comes_round}
 use Rattle.cr_path.specs.Sets.{AreUncut}
 use Rattle.cr_path.specs.declared.walks.ends.LeadEnd.{LeadEnd}
 
@@ -13,6 +13,7 @@ final_step node = get_or node (length node - 1) 0
 -- the end of a calling: where the records of its head start, how many changes lead there, and whether its head comes round
 pub record IsEnd (p : ProblemParts) (t : NumberParts) (calling : List ℕ) (end : LeadEnd) : Type 0 where
   pub from : IsBase t (head_of p calling) end.base
+  pub by_records : end.base ≡ base_of t calling
   pub long : end.rung ≡ length_of p calling
   pub round : nat_eq end.round 1 ≡ comes_round p (head_of p calling)
 

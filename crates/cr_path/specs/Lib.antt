@@ -6,7 +6,6 @@ pub mod RungLeads
 pub mod Covers
 pub mod Representatives
 pub mod PathLimits
-pub mod Leads
 pub mod Begun
 pub mod Examples
 pub mod Walks

@@ -1,5 +1,5 @@
 -- Lead heads and leads by numbers, as contracts see them.
-use Rattle.std.specs.Prelude.{◌≡◌, ℕ, zero, suc, ◌+◌, ◌-◌, ◌*◌, ◌/◌, ◌<◌, ◌≤◌, Bool, not, ◌&&◌, ◌||◌, nat_lt, nat_eq, List, [], ◌∷◌, length, get_or, map, flat_map, take, drop, All}
+use Rattle.std.specs.Prelude.{◌≡◌, ℕ, zero, suc, ◌+◌, ◌-◌, ◌*◌, ◌/◌, ◌<◌, ◌≤◌, Bool, false, not, ◌&&◌, ◌||◌, nat_lt, nat_eq, List, [], ◌∷◌, length, get_or, map, flat_map, take, drop, All}
 use Rattle.std.specs.Cmp.Lexicographic.{pointwise}
 use Rattle.std.specs.List.{list_any, range_with_len}
 use Rattle.cr_row.specs.Rows.{rounds, product}
@@ -14,11 +14,11 @@ use Rattle.cr_model.specs.Sizes.{most_rows}
 use Rattle.cr_path.specs.PathLimits.{false_leads}
 use Rattle.cr_path.specs.declared.numbers.table.LeadRecord.{LeadRecord}
 
--- the number of steps; the heads, each at its number; the representative rows, each at its number; a record of each lead, of the first head's steps first; how many numbers each lead has, and in the order of the records the numbers of the representative rows of all leads; of each step whether its lead has a row twice; and of each pattern, in the order of the records, how many rows of each lead fit it
+-- the number of steps; the heads, each at its number; how many representative rows there are; a record of each lead, of the first head's steps first; how many numbers each lead has, and in the order of the records the numbers of the representative rows of all leads; of each step whether its lead has a row twice; and of each pattern, in the order of the records, how many rows of each lead fit it
 pub record NumberParts : Type 0 where
   pub steps : ℕ
   pub heads : List (List ℕ)
-  pub rows : List (List ℕ)
+  pub rows : ℕ
   pub records : List LeadRecord
   pub width : ℕ
   pub numbers : List ℕ
@@ -87,26 +87,53 @@ pub record IsRecord (p : ProblemParts) (t : NumberParts) (head : List ℕ) (step
   pub round : lead.round ≡ comes_round p (head_after p head step)
   pub limit : (rung : ℕ) → nat_lt rung lead.limit ≡ not (dies_after p head step rung)
   pub long : lead.length ≡ lead_length p step
-  pub are : (number : ℕ) → number < length t.rows → list_any (nat_eq number) (numbers_of t place) ≡ is_listed (lead_from p head step) (get_or t.rows number [])
 
--- of some rows the representative ones are enough: a lead has one of them exactly where one of its representative rows is one of them
-abbrev pub IsTold : ProblemParts → NumberParts → List (List ℕ) → Type 0
-IsTold p t rows = (head step : ℕ) → head < length t.heads → step < t.steps
-    → list_any (is_listed rows) (lead_from p (get_or t.heads head []) step)
-    ≡ list_any (is_listed rows) (map (λ number. get_or t.rows number []) (numbers_of t (head * t.steps + step)))
+-- what is read past the last record
+abbrev pub no_record : LeadRecord
+no_record = record { next = 0; limit = 0; length = 0; round = false }
 
--- they are numbers of a problem: rounds is the first head and the first row, and two leads have a row in common exactly where they have a representative row in common
+-- where the records of the head after the lead at a place start
+abbrev pub next_at : NumberParts → ℕ → ℕ
+next_at t place = (get_or t.records place no_record).next
+
+-- the places of the leads of some steps, from the head whose records start here on, and where the records of the head after them start
+abbrev pub places_from : NumberParts → ℕ → List ℕ → List ℕ
+places_from t base [] = []
+places_from t base (step ∷ steps) = (base + step) ∷ places_from t (next_at t (base + step)) steps
+
+abbrev pub base_from : NumberParts → ℕ → List ℕ → ℕ
+base_from t base [] = base
+base_from t base (step ∷ steps) = base_from t (next_at t (base + step)) steps
+
+-- the same of a node, which begins at rounds
+abbrev pub places_of : NumberParts → List ℕ → List ℕ
+places_of t node = places_from t 0 node
+
+abbrev pub base_of : NumberParts → List ℕ → ℕ
+base_of t node = base_from t 0 node
+
+-- a number is one of those of the leads at some places
+abbrev pub is_seen : NumberParts → List ℕ → ℕ → Bool
+is_seen t places number = list_any (λ place. list_any (nat_eq number) (numbers_of t place)) places
+
+-- the numbers of the leads at some places tell of some rows: rounds is one of these exactly where 0 is one of the numbers, and a lead brings one of these exactly where it has one of the numbers
+pub record IsTold (p : ProblemParts) (t : NumberParts) (places : List ℕ) (rows : List (List ℕ)) : Type 0 where
+  pub first : is_seen t places 0 ≡ has_rounds p rows
+  pub each : (head step : ℕ) → head < length t.heads → step < t.steps
+      → list_any (is_seen t places) (numbers_of t (head * t.steps + step)) ≡ list_any (is_listed rows) (lead_from p (get_or t.heads head []) step)
+
+-- they are numbers of a problem: rounds is the first head, two leads have a row in common exactly where they have a number in common, and a lead has rounds exactly where it has number 0
 pub record IsNumbered (p : ProblemParts) (t : NumberParts) : Type 0 where
   pub counted : t.steps ≡ length p.leads
   pub some_head : 0 < length t.heads
   pub first_head : get_or t.heads 0 [] ≡ rounds p.stage
   pub staged : All (λ head. length head ≡ p.stage) t.heads
-  pub some_row : 0 < length t.rows
-  pub first_row : get_or t.rows 0 [] ≡ rounds p.stage
-  pub within : All (λ number. number < length t.rows) t.numbers
+  pub some_row : 0 < t.rows
+  pub within : All (λ number. number < t.rows) t.numbers
   pub each : (head step : ℕ) (d : LeadRecord) → head < length t.heads → step < t.steps
       → IsRecord p t (get_or t.heads head []) step (head * t.steps + step) (get_or t.records (head * t.steps + step) d)
-  pub told : (head step : ℕ) → head < length t.heads → step < t.steps → IsTold p t (lead_from p (get_or t.heads head []) step)
+  pub told : (head step : ℕ) → head < length t.heads → step < t.steps
+      → IsTold p t ((head * t.steps + step) ∷ []) (lead_from p (get_or t.heads head []) step)
   pub twice : t.twice ≡ false_leads p (length p.leads)
   pub fitting : t.fittings ≡ map (all_fitting p t.heads) p.query.patterns
 

@@ -4,7 +4,7 @@ use Rattle.cr_row.specs.Rows.{rounds}
 use Rattle.cr_model.specs.Problems.{ProblemParts}
 use Rattle.cr_rowset.specs.Stacks.{AllDiffer}
 use Rattle.cr_rowset.specs.Pushing.{StandsAt}
-use Rattle.cr_path.specs.Rung.{RungParts, IsHeld, IsRungLead}
+use Rattle.cr_path.specs.Rung.{RungParts, IsHeld, IsReached, IsRungLead}
 use Rattle.cr_path.specs.declared.numbers.rung_leads.RungLead.{RungLead}
 
 -- rows that stay at their places, where others may come after them
@@ -30,9 +30,10 @@ pub record AreHeads (p : ProblemParts) (heads : List (List ℕ)) : Type 0 where
   pub some : 0 < length heads
   pub first : get_or heads 0 [] ≡ rounds p.stage
   pub staged : All (λ head. length head ≡ p.stage) heads
+  pub reached : All (IsReached p) heads
 
 -- numbers of a problem on the way: the records of so many leads, head by head
-pub record IsBegun (p : ProblemParts) (t : RungParts) (done : ℕ) : Type 0 where
+pub record IsBegun (p : ProblemParts) (told : List (List (List ℕ))) (t : RungParts) (done : ℕ) : Type 0 where
   pub counted : t.steps ≡ length p.leads
   pub heads : AreHeads p t.heads
   pub some_row : 0 < length t.rows
@@ -42,4 +43,4 @@ pub record IsBegun (p : ProblemParts) (t : RungParts) (done : ℕ) : Type 0 wher
   pub recorded : length t.records ≡ done
   pub held : All (IsHeld (length t.numbers)) t.records
   pub each : (head step : ℕ) (d : RungLead) → head < length t.heads → step < t.steps → head * t.steps + step < done
-      → IsRungLead p t (get_or t.heads head []) step (get_or t.records (head * t.steps + step) d)
+      → IsRungLead p told t (get_or t.heads head []) step (get_or t.records (head * t.steps + step) d)

@@ -17,10 +17,12 @@ pub fn plain_bob_minimus_has_its_numbers()
     the_depth_is_greatest();
 }
 
-/// Of two leads that have all rows but the last in common the first row tells so, and the last row of one does not.
+/// Of two leads that have all rows but the last in common the first row tells so, and the last row of one does not. Where
+/// one of them has rounds and the other has not, the numbers of the other do not tell of it.
 pub fn a_row_in_common_is_told()
-    ensures first { IsTold called (called_numbers 0) (lead_from called (rounds 4) 1) }
-    ensures last { IsTold called (called_numbers 1) (lead_from called (rounds 4) 1) → ⊥ }
+    ensures first { IsTold called (called_numbers 0) (1 ∷ []) (lead_from called (rounds 4) 1) }
+    ensures last { IsTold called (called_numbers 1) (1 ∷ []) (lead_from called (rounds 4) 1) → ⊥ }
+    ensures round { IsTold called (called_numbers 0) (0 ∷ []) (lead_from called (rounds 4) 1) → ⊥ }
 {}
 
 /// In two parts of Plain Bob Minimus, of at most 12 changes each, a lead may follow four changes and not five. Rounds

@@ -40,6 +40,7 @@ pub use laws::{
     a_row_in_common_is_told, heads_lead_to_heads, leads_die_at_the_edges,
     plain_bob_minimus_has_its_numbers,
 };
+pub use numbers::room::Room;
 pub use numbers::table::NumberTable;
 pub use walks::node_counts::is_counted;
 pub use walks::walk::NumberWalk;

@@ -9,6 +9,7 @@ pub mod pattern_rows;
 pub mod proposed;
 pub mod records;
 pub mod representatives;
+pub mod room;
 pub mod rotated_patterns;
 pub mod row_names;
 pub mod row_numbers;

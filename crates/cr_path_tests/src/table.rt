@@ -5,7 +5,7 @@ ghost use Rattle.cr_reach.specs.Tables.{reach_table};
 
 use cr_leads::LeadTable;
 use cr_model::Problem;
-use cr_path::NumberTable;
+use cr_path::{NumberTable, Room};
 use cr_reach::ReachTable;
 use cr_samples::{DOUBLES, Draft, MINIMUS, MINOR, problem_of};
 use std::alloc::Global;
@@ -15,6 +15,18 @@ use std::test::*;
 const FOURS: Draft = Draft {
     leads: &[(0, b'p', b"x.14.x.12"), (0, b'b', b"x.14.12.14")],
     ..MINIMUS
+};
+
+// Plain Bob Royal without a call.
+const ROYAL_COURSE: Draft = Draft {
+    stage: 10,
+    leads: &[(
+        0,
+        b'p',
+        b"x.10.x.10.x.10.x.10.x.10.x.10.x.10.x.10.x.10.x.12",
+    )],
+    length: (1, 400),
+    ..DOUBLES
 };
 
 // Plain Bob Royal with bobs and singles.
@@ -62,18 +74,27 @@ fn reach_of(alloc: Global, problem: &Problem, leads: &LeadTable) -> Result<Reach
     }
 }
 
-fn table(alloc: Global, draft: &Draft, most_heads: u64) -> Result<Option<NumberTable>, Fail> {
+// Room for so many heads, and for as many rows of theirs as there are.
+fn room(heads: u32) -> Room {
+    Room {
+        bytes: 1 << 30,
+        heads,
+        rows: 1 << 20,
+    }
+}
+
+fn table(alloc: Global, draft: &Draft, most_heads: u32) -> Result<Option<NumberTable>, Fail> {
     let problem = problem_of(alloc, draft)?;
     let leads = leads_of(alloc, &problem)?;
     let reach = reach_of(alloc, &problem, &leads)?;
-    match NumberTable::new(alloc, &problem, &leads, &reach, most_heads, 1 << 20) {
+    match NumberTable::new(alloc, &problem, &leads, &reach, room(most_heads)) {
         Ok(table) => Ok(table),
         Err(_) => Err(Fail::from("there is memory")),
     }
 }
 
 // How many numbers each lead has, or None where there is no table of so many heads.
-fn width(alloc: Global, draft: &Draft, most_heads: u64) -> Result<Option<usize>, Fail> {
+fn width(alloc: Global, draft: &Draft, most_heads: u32) -> Result<Option<usize>, Fail> {
     match table(alloc, draft, most_heads)? {
         Some(table) => Ok(Some(table.width())),
         None => Ok(None),
@@ -81,7 +102,7 @@ fn width(alloc: Global, draft: &Draft, most_heads: u64) -> Result<Option<usize>,
 }
 
 // The most heads, and how many numbers a lead has in them.
-type Wanted = (&'static str, Draft, u64, Option<usize>);
+type Wanted = (&'static str, Draft, u32, Option<usize>);
 
 // Each problem has a table in as many heads as its leads reach, and none in one less. In Minimus each row stands in one
 // lead, which has one representative row, and the least width is 2. In Doubles and Minor the rows of a lead but its last two
@@ -110,8 +131,22 @@ fn heads_are_counted(rt: HostRuntime) -> Result<(), Fail> {
     Ok(())
 }
 
+// From nine bells on few rows of a lead tell it apart from others: of the twenty of Plain Bob Royal four or fewer. It has
+// nine heads without a call.
+#[test]
+fn few_rows_tell_leads_apart(rt: HostRuntime) -> Result<(), Fail> {
+    if width(rt.alloc(), &ROYAL_COURSE, 8)?.is_some() {
+        return Err(Fail::from("there are nine heads"));
+    }
+    match width(rt.alloc(), &ROYAL_COURSE, 9)? {
+        Some(width) if width <= 4 => Ok(()),
+        Some(_) => Err(Fail::from("four rows tell a lead")),
+        None => Err(Fail::from("nine heads have room")),
+    }
+}
+
 // To which heads the steps of a problem lead, head after head, if there is a table of so many heads.
-fn next_heads(alloc: Global, draft: &Draft, most_heads: u64) -> Result<Option<Vec<u32>>, Fail> {
+fn next_heads(alloc: Global, draft: &Draft, most_heads: u32) -> Result<Option<Vec<u32>>, Fail> {
     match table(alloc, draft, most_heads)? {
         Some(table) => Ok(table.next_heads(alloc).ok()),
         None => Ok(None),

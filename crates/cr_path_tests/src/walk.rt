@@ -6,7 +6,7 @@ ghost use Rattle.cr_path.specs.Numbers.{IsNumbered};
 use cr_leads::{LeadTable, Rung};
 use cr_model::Cell::{Bell, Run};
 use cr_model::{Calling, Count, MethodCount, Problem};
-use cr_path::{NumberTable, NumberWalk};
+use cr_path::{NumberTable, NumberWalk, Room};
 use cr_reach::ReachTable;
 use cr_samples::{DOUBLES, Draft, problem_of};
 use std::alloc::Global;
@@ -69,7 +69,12 @@ fn numbers_of(alloc: Global, problem: &Problem, leads: &LeadTable) -> Result<Num
         Ok(reach) => reach,
         Err(_) => return Err(Fail::from("there is memory")),
     };
-    match NumberTable::new(alloc, problem, leads, &reach, 1_000, 1 << 20) {
+    let room = Room {
+        bytes: 1 << 30,
+        heads: 1_000,
+        rows: 1 << 20,
+    };
+    match NumberTable::new(alloc, problem, leads, &reach, room) {
         Ok(Some(numbers)) => Ok(numbers),
         Ok(None) => Err(Fail::from("there are few heads")),
         Err(_) => Err(Fail::from("there is memory")),

@@ -65,6 +65,18 @@ back_all P front back all = λ i d inside.
     subst P (get_or-append_right front back (length front) (length front + i) d refl (omega arith) ∙ ap (λ n. get_or back n d) place)
     (all (length front + i) d (omega (arith, length-append front back)))
 
+-- the nodes of one job more
+pub one_job_more : (jobs : List (Vec (List ℕ))) (job : Vec (List ℕ)) → nodes_of_jobs (lists jobs) ++ job.items ≡ nodes_of_jobs (lists (jobs ++ job ∷ []))
+one_job_more [] job = sym (append-nil job.items)
+one_job_more (first ∷ jobs) job = append_assoc first.items (nodes_of_jobs (lists jobs)) job.items ∙ ap (λ nodes. first.items ++ nodes) (one_job_more jobs job)
+
+-- jobs of which none is empty have nodes
+pub some_nodes_of : (jobs : List (List (List ℕ))) → 0 < length jobs → All (λ job. 0 < length job) jobs → 0 < length (nodes_of_jobs jobs)
+some_nodes_of [] some filled = absurd (omega (arith, some))
+some_nodes_of (job ∷ jobs) some filled =
+    let first : 0 < length job = filled 0 job (omega arith) in
+    omega (arith, first, length-append job (nodes_of_jobs jobs))
+
 -- each of some jobs whose nodes are valid and apart is one
 pub each_job : (p : ProblemParts) (jobs : List (List (List ℕ))) → All (λ job. 0 < length job) jobs → All (IsValid p) (nodes_of_jobs jobs)
     → Independent p [] (nodes_of_jobs jobs) → All (IsJob p) jobs

@@ -1,5 +1,5 @@
 -- A search that leaves no node.
-use Rattle.std.proofs.Common.{◌≡◌, ℕ, ◌+◌, ◌<◌, ◌≤◌, List, [], ◌++◌, length, All, None, inl, refl, arith}
+use Rattle.std.proofs.Common.{◌≡◌, ℕ, List, [], None, inl, refl, arith}
 use Rattle.cr_model.specs.Problems.{ProblemParts}
 use Rattle.cr_model.specs.Checkpoints.{CanGoOn, nodes_of_jobs}
 use Rattle.cr_model.specs.Nodes.{Splits}

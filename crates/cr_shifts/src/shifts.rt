@@ -10,6 +10,7 @@ ghost use Rattle.cr_trail.specs.Runs.{RunsOn};
 ghost use Rattle.cr_shifts.specs.Shifts.{IsPartDone, GoesOn, found_by, left_by};
 
 use crate::finder::{Finder, Findings};
+use cr_book::each_in_a_thread;
 use cr_explore::laws::a_split_in_any_order;
 use cr_model::Calling;
 use cr_model::laws::{a_split_among_others, sizes_are_sums, splits_follow_one_another};
@@ -18,7 +19,7 @@ use cr_row::NoMemory;
 use cr_store::Remaining;
 use cr_trail::RunProgress;
 use std::alloc::Global;
-use std::thread::{Threads, map_vec};
+use std::thread::Threads;
 
 // About how many turns each job of the first shift takes, and of the later ones at most. Few at first, so that few nodes soon
 // become many.
@@ -26,8 +27,10 @@ const FIRST_TURNS: u64 = 1 << 12;
 
 const MOST_TURNS: u64 = 1 << 20;
 
-// How many jobs a shift has for each of several workers: the work of some is done soon.
-const JOBS_FOR_A_WORKER: usize = 4;
+// How many jobs a shift has for each of several workers, and how many at most: the work of many is done soon.
+const JOBS_FOR_A_WORKER: usize = 16;
+
+const MOST_JOBS: usize = 256;
 
 /// Goes on from where a search went, by about so many threads, until no node is left. What it finds comes behind what was
 /// found before, in whatever order that is. Err where no memory is left.
@@ -46,8 +49,7 @@ pub fn find_in_shifts<R: AllocGlobal + Threads + Sync, F: Finder + Sync>(
     let alloc = rt.alloc();
     let RunProgress { left, mut handed } = before;
     let Remaining { mut found, jobs } = left;
-    let nodes = in_one(alloc, jobs)?;
-    find_all(rt, workers, finder, nodes, &mut found, &mut handed)?;
+    find_all(rt, workers, finder, jobs, &mut found, &mut handed)?;
     let left = Remaining {
         found,
         jobs: Vec::new(alloc),
@@ -55,23 +57,24 @@ pub fn find_in_shifts<R: AllocGlobal + Threads + Sync, F: Finder + Sync>(
     Ok(RunProgress { left, handed })
 }
 
-// Puts all kept touches below some nodes behind what was found before. How many each job found that found any comes behind
-// the numbers.
+// Puts all kept touches below the nodes of some jobs behind what was found before. How many each job of a shift found that
+// found any comes behind the numbers.
 fn find_all<R: AllocGlobal + Threads + Sync, F: Finder + Sync>(
     rt: &R,
     workers: u32,
     finder: &F,
-    nodes: Vec<Node>,
+    jobs: Vec<Vec<Node>>,
     found: &mut Vec<Calling>,
     handed: &mut Vec<u64>,
 ) -> Result<(), NoMemory>
-    requires valid { All (IsValid (F.finds finder.now)) nodes.items }
-    requires independent { Independent (F.finds finder.now) [] nodes.items }
-    ensures { IfOk result (λ _. GoesOn (F.finds finder.now) nodes.items found.old.items found.new.items []) }
+    requires filled { All (λ job. 0 < length job) (lists jobs.items) }
+    requires valid { All (IsValid (F.finds finder.now)) (nodes_of_jobs (lists jobs.items)) }
+    requires independent { Independent (F.finds finder.now) [] (nodes_of_jobs (lists jobs.items)) }
+    ensures { IfOk result (λ _. GoesOn (F.finds finder.now) (nodes_of_jobs (lists jobs.items)) found.old.items found.new.items []) }
 {
     splits_follow_one_another();
     let alloc = rt.alloc();
-    let mut left = nodes;
+    let mut left = jobs;
     let mut turns = FIRST_TURNS;
     while !left.is_empty() {
         let done = one_shift(rt, workers, finder, left, turns)?;
@@ -81,33 +84,35 @@ fn find_all<R: AllocGlobal + Threads + Sync, F: Finder + Sync>(
     Ok(())
 }
 
-// One shift: what each job found and left.
+// One shift: what each job found and left. A job has nodes of one of those before alone: so no touch that was found lies
+// between two that a job finds, and what all hand in is in order as it stands.
 fn one_shift<R: AllocGlobal + Threads + Sync, F: Finder + Sync>(
     rt: &R,
     workers: u32,
     finder: &F,
-    nodes: Vec<Node>,
+    left: Vec<Vec<Node>>,
     turns: u64,
 ) -> Result<Vec<Findings>, NoMemory>
-    requires some { 0 < length nodes.items }
+    requires some { 0 < length left.items }
     requires turns { 0 < turns }
-    requires valid { All (IsValid (F.finds finder.now)) nodes.items }
-    requires independent { Independent (F.finds finder.now) [] nodes.items }
-    ensures splits { IfOk result (λ done. Splits (F.finds finder.now) nodes.items (found_by done.items) (left_by done.items)) }
+    requires filled { All (λ job. 0 < length job) (lists left.items) }
+    requires valid { All (IsValid (F.finds finder.now)) (nodes_of_jobs (lists left.items)) }
+    requires independent { Independent (F.finds finder.now) [] (nodes_of_jobs (lists left.items)) }
+    ensures splits { IfOk result (λ done. Splits (F.finds finder.now) (nodes_of_jobs (lists left.items)) (found_by done.items) (left_by done.items)) }
     ensures smaller { IfOk result (λ done. size_of_all (F.finds finder.now) most_rows (left_by done.items)
-        < size_of_all (F.finds finder.now) most_rows nodes.items) }
+        < size_of_all (F.finds finder.now) most_rows (nodes_of_jobs (lists left.items))) }
 {
     a_split_among_others();
     a_split_in_any_order();
     sizes_are_sums();
     splits_follow_one_another();
     let alloc = rt.alloc();
-    let jobs = in_jobs(alloc, nodes, most_jobs(workers))?;
+    let jobs = in_jobs(alloc, left, most_jobs(workers))?;
     let find = |job: Vec<Node>| -> Result<Findings, NoMemory>
         requires { IsJob (F.finds finder.now) job.items × (0 < turns) }
         ensures { IfOk result (IsPartDone (F.finds finder.entry.now) job.items) }
     { finder.find(alloc, &job, turns) };
-    let results = map_vec(rt, jobs, &find)?;
+    let results = each_in_a_thread(rt, jobs, &find)?;
     all_made(alloc, results)
 }
 
@@ -118,7 +123,7 @@ fn most_jobs(workers: u32) -> usize
     if workers < 2 {
         1
     } else {
-        JOBS_FOR_A_WORKER * workers as usize
+        (JOBS_FOR_A_WORKER * workers as usize).min(MOST_JOBS)
     }
 }
 
@@ -136,51 +141,66 @@ fn all_made(
     Ok(made)
 }
 
-// Puts what jobs found behind what was found before, and gives what they left in one list.
+// Puts what jobs found behind what was found before, and gives what each left that left any.
 fn put_together(
     alloc: Global,
     done: Vec<Findings>,
     found: &mut Vec<Calling>,
     handed: &mut Vec<u64>,
-) -> Result<Vec<Node>, NoMemory>
+) -> Result<Vec<Vec<Node>>, NoMemory>
     ensures found { IfOk result (λ _. found.new.items ≡ found.old.items ++ found_by done.items) }
-    ensures left { IfOk result (λ left. left.items ≡ left_by done.items) }
+    ensures left { IfOk result (λ left. nodes_of_jobs (lists left.items) ≡ left_by done.items) }
+    ensures filled { IfOk result (λ left. All (λ job. 0 < length job) (lists left.items)) }
 {
     let mut left = Vec::new(alloc);
     for one in done {
         let Findings {
             found: mut more,
-            mut rest,
+            rest,
         } = one;
         if !more.is_empty() {
             handed.push(more.len() as u64)?;
         }
         found.append(&mut more)?;
-        left.append(&mut rest)?;
+        if !rest.is_empty() {
+            left.push(rest)?;
+        }
     }
     Ok(left)
 }
 
-// The nodes of all jobs, in one list.
-fn in_one(alloc: Global, jobs: Vec<Vec<Node>>) -> Result<Vec<Node>, NoMemory>
-    ensures { IfOk result (λ nodes. nodes.items ≡ nodes_of_jobs (lists jobs.items)) }
-{
-    let mut nodes = Vec::new(alloc);
-    for mut job in jobs {
-        nodes.append(&mut job)?;
-    }
-    Ok(nodes)
-}
-
-// The nodes cut into so many jobs at most, each of as many as the others but for the last one. None is empty.
-fn in_jobs(alloc: Global, nodes: Vec<Node>, most: usize) -> Result<Vec<Vec<Node>>, NoMemory>
-    requires some { 0 < length nodes.items }
-    requires most { 0 < most }
-    ensures all { IfOk result (λ jobs. nodes_of_jobs (lists jobs.items) ≡ nodes.items) }
+// The jobs cut into about so many, where there are fewer. None is empty.
+fn in_jobs(alloc: Global, left: Vec<Vec<Node>>, most: usize) -> Result<Vec<Vec<Node>>, NoMemory>
+    requires filled { All (λ job. 0 < length job) (lists left.items) }
+    ensures all { IfOk result (λ jobs. nodes_of_jobs (lists jobs.items) ≡ nodes_of_jobs (lists left.items)) }
     ensures filled { IfOk result (λ jobs. All (λ job. 0 < length job) (lists jobs.items)) }
 {
-    let size = nodes.len().div_ceil(most);
+    let pieces = most.saturating_sub(left.len()).max(1);
+    let size = number_of(&left).div_ceil(pieces).max(1);
     let mut jobs = Vec::new(alloc);
+    for nodes in left {
+        cut(&mut jobs, nodes, size)?;
+    }
+    Ok(jobs)
+}
+
+// How many nodes all jobs have.
+fn number_of(jobs: &[Vec<Node>]) -> usize {
+    let mut number: usize = 0;
+    for job in jobs {
+        number = number.saturating_add(job.len());
+    }
+    number
+}
+
+// Appends the nodes of a job in jobs of at most so many.
+fn cut(jobs: &mut Vec<Vec<Node>>, nodes: Vec<Node>, size: usize) -> Result<(), NoMemory>
+    requires some { 0 < length nodes.items }
+    requires size { 0 < size }
+    requires filled { All (λ job. 0 < length job) (lists jobs.old.items) }
+    ensures all { IfOk result (λ _. nodes_of_jobs (lists jobs.new.items) ≡ nodes_of_jobs (lists jobs.old.items) ++ nodes.items) }
+    ensures filled { IfOk result (λ _. All (λ job. 0 < length job) (lists jobs.new.items)) }
+{
     let mut job = nodes;
     while job.len() > size {
         let rest = job.split_off(size)?;
@@ -188,5 +208,5 @@ fn in_jobs(alloc: Global, nodes: Vec<Node>, most: usize) -> Result<Vec<Vec<Node>
         job = rest;
     }
     jobs.push(job)?;
-    Ok(jobs)
+    Ok(())
 }

@@ -32,8 +32,7 @@ const LONG_TURNS: u64 = 1 << 22;
 
 /// Goes on with a search by one worker, who waits for nobody, until no job is left or the turns that are allowed are
 /// used. One that rings gets more room once it is long, and one that counts no turns passes by what cannot come to what is
-/// asked, where that serves. Each exploration enters the gate first. Err where no memory is
-/// left.
+/// asked, where that serves. Each exploration enters the gate first. Err where no memory is left.
 pub fn search_by_one<R: AllocGlobal + Threads + Sync, G: Gate + Sync>(
     rt: &R,
     search: &Search,
@@ -46,33 +45,13 @@ pub fn search_by_one<R: AllocGlobal + Threads + Sync, G: Gate + Sync>(
         now.left.found.items (lists now.left.jobs.items)) }
 {
     runs_follow_one_another();
-    let before = RunProgress::begun(rt.alloc(), left)?;
-    let went = search_on_by_one(rt, search, gate, before, turns)?;
-    Ok(went)
-}
-
-// The same from where a search went. A search that rings goes on in two runs: as it is, and then with more room.
-fn search_on_by_one<R: AllocGlobal + Threads + Sync, G: Gate + Sync>(
-    rt: &R,
-    search: &Search,
-    gate: &G,
-    before: RunProgress,
-    turns: Option<u64>,
-) -> Result<RunProgress, NoMemory>
-    requires goes_on { CanGoOn (searched search.now) [] (lists before.left.jobs.items) }
-    ensures { IfOk result (λ now. RunsOn (searched search.now) before.left.found.items (lists before.left.jobs.items) turns
-        now.left.found.items (lists now.left.jobs.items)) }
-{
-    runs_follow_one_another();
-    if !search.rings() {
-        return go_on_by_one(rt, search, gate, before, turns);
-    }
     let alloc = rt.alloc();
+    let before = RunProgress::begun(alloc, left)?;
     let gated = Gated {
         explorer: search,
         gate,
     };
-    let first = first_turns(1, turns);
+    let first = first_turns(search, 1, turns);
     let went = run_by_one(alloc, &gated, before, Some(first))?;
     if is_over(&went.left) {
         return Ok(went);
@@ -83,7 +62,8 @@ fn search_on_by_one<R: AllocGlobal + Threads + Sync, G: Gate + Sync>(
     Ok(end)
 }
 
-// The same in one run: on boards or, where turns are not counted and it serves, past what cannot come to what is asked.
+// Goes on from where a search went, in one run by one worker: on boards or, where turns are not counted and it serves, past
+// what cannot come to what is asked.
 fn go_on_by_one<R: AllocGlobal + Threads + Sync, G: Gate + Sync>(
     rt: &R,
     search: &Search,
@@ -126,34 +106,11 @@ pub fn search_by<R: AllocGlobal + Threads + Wait + Sync, G: Gate + Sync>(
 {
     runs_follow_one_another();
     let before = RunProgress::begun(rt.alloc(), left)?;
-    let went = search_on_by(rt, workers, search, gate, before, turns)?;
-    Ok(went)
-}
-
-// The same as `search_on_by_one` by so many workers.
-fn search_on_by<R: AllocGlobal + Threads + Wait + Sync, G: Gate + Sync>(
-    rt: &R,
-    workers: u32,
-    search: &Search,
-    gate: &G,
-    before: RunProgress,
-    turns: Option<u64>,
-) -> Result<RunProgress, NoMemory>
-    requires goes_on { CanGoOn (searched search.now) [] (lists before.left.jobs.items) }
-    requires some_workers { 1 ≤ workers }
-    requires few_workers { workers ≤ 64 }
-    ensures { IfOk result (λ now. RunsOn (searched search.now) before.left.found.items (lists before.left.jobs.items) turns
-        now.left.found.items (lists now.left.jobs.items)) }
-{
-    runs_follow_one_another();
-    if !search.rings() {
-        return go_on_by(rt, workers, search, gate, before, turns);
-    }
     let gated = Gated {
         explorer: search,
         gate,
     };
-    let first = first_turns(workers, turns);
+    let first = first_turns(search, workers, turns);
     let went = run_by(rt, workers, &gated, before, Some(first))?;
     if is_over(&went.left) {
         return Ok(went);
@@ -204,11 +161,14 @@ fn roomiest<'a>(longer: &'a Option<Search>, search: &'a Search) -> &'a Search
     }
 }
 
-// The turns of a search before it is long: no more than are allowed.
-fn first_turns(workers: u32, turns: Option<u64>) -> u64
+// The turns of a search that rings before it is long, no more than are allowed. Another is as it stands at once.
+fn first_turns(search: &Search, workers: u32, turns: Option<u64>) -> u64
     requires { workers ≤ 64 }
     ensures { KeepsTo turns result }
 {
+    if !search.rings() {
+        return 0;
+    }
     let most = u64::from(workers) * LONG_TURNS;
     match turns {
         Some(turns) => turns.min(most),

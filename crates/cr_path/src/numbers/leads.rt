@@ -2,24 +2,31 @@
 
 ghost use Rattle.std.specs.Prelude.{◌≡◌, ℕ, ◌+◌, ◌*◌, ◌^◌, ◌<◌, ◌≤◌, Bool, ◌||◌, ◌&&◌, not, nat_lt, nat_eq, nat_abs, List, [], ◌∷◌, length, take, drop, All, IfOk};
 ghost use Rattle.std.specs.List.{list_any};
-ghost use Rattle.cr_row.specs.Rows.{rounds};
+ghost use Rattle.cr_row.specs.Rows.{rounds, IsInverse};
 ghost use Rattle.cr_model.specs.Callings.{rows_of, changes_at, lead_length, shortest};
-ghost use Rattle.cr_model.specs.Levels.{at_least};
+ghost use Rattle.cr_model.specs.Levels.{at_least, is_listed};
+ghost use Rattle.cr_model.specs.Dead.{has_rounds};
 ghost use Rattle.cr_model.specs.Sizes.{most_rows};
 ghost use Rattle.cr_model.specs.Right.{FitsStage, pattern_at};
 ghost use Rattle.cr_leads.specs.Tables.{lead_table};
 ghost use Rattle.cr_reach.specs.Tables.{reach_table};
 ghost use Rattle.cr_path.specs.Numbers.{lead_from, head_after, brings_round, dies_after, power, comes_round};
 ghost use Rattle.cr_path.specs.PathLimits.{has_row_twice};
-ghost use Rattle.cr_path.specs.Leads.{has_first};
+ghost use Rattle.cr_path.specs.Rung.{IsReached};
+ghost use Rattle.cr_false.specs.Telling.{AreTelling};
 
 use crate::numbers::path_limits::PathLimits;
+use cr_false::TellingRows;
 use cr_leads::LeadTable;
 use cr_model::{Lead, Pattern, Problem, Query};
 use cr_reach::ReachTable;
 use cr_row::{NoMemory, Row, Stage};
 use std::alloc::Global;
 use std::marker::Model;
+
+// From how many bells on few rows of each lead are looked for. Below, there are so few heads that all rows may stand for
+// each other, which leaves fewer.
+const FEW_FROM: u8 = 9;
 
 /// The leads of a problem, and what is known of each before it is rung from a head.
 ///
@@ -142,13 +149,36 @@ impl<'a> Leads<'a> {
         power(stage, head, self.problem.parts()) == Row::rounds(stage)
     }
 
-    /// Whether a lead with rows of these numbers, where rounds has number 0, brings rounds before its last row, or there
-    /// where there are several parts.
-    pub fn bring_round(&self, numbers: &[u32]) -> bool
-        ensures { result ≡ has_first self.now numbers.now }
+    /// The rows that tell the leads apart: all of them, and from nine bells on few of each. Err where no memory is left.
+    pub fn telling_rows(&self, alloc: Global) -> Result<TellingRows, NoMemory>
+        ensures { IfOk result (λ told. AreTelling (lead_table self.now) told) }
     {
-        let last = numbers.len().saturating_sub(1);
-        numbers[..last].contains(&0) || (numbers[last..].contains(&0) && self.path_limits.several)
+        if self.stage().number() < FEW_FROM {
+            TellingRows::all(alloc, self.leads)
+        } else {
+            TellingRows::new(alloc, self.leads)
+        }
+    }
+
+    /// Whether the lead of a step brings rounds, rung from the head of which this is the inverse.
+    pub fn has_round(&self, step: u8, inverse: &Row) -> bool
+        requires { step < length self.now.leads }
+        ensures { (head : List ℕ) → IsReached self.now head → IsInverse head inverse.now
+            → result ≡ has_rounds self.now (lead_from self.now head step) }
+    {
+        has_row(self.rows_of(step), inverse)
+    }
+
+    /// Whether it brings rounds before its last row, or there where there are several parts.
+    pub fn brings_round(&self, step: u8, inverse: &Row) -> bool
+        requires { step < length self.now.leads }
+        ensures { (head : List ℕ) → IsReached self.now head → IsInverse head inverse.now
+            → result ≡ brings_round self.now (lead_from self.now head step) }
+    {
+        let rows = self.rows_of(step);
+        let last = rows.len().saturating_sub(1);
+        has_row(&rows[..last], inverse)
+            || (has_row(&rows[last..], inverse) && self.path_limits.several)
     }
 
     /// The length below which a node may have a live child by this step, of which the head after it is given, and
@@ -203,6 +233,13 @@ fn patterns_of(query: &Query) -> &[Pattern]
     ensures { result.now ≡ query.now.patterns }
 {
     query.patterns.as_slice()
+}
+
+// Whether a row is one of these.
+fn has_row(rows: &[Row], row: &Row) -> bool
+    ensures { result ≡ is_listed rows.now row.now }
+{
+    rows.iter().any(|other| *other == *row)
 }
 
 // Rounds by a row, so many times.

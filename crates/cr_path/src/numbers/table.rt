@@ -16,6 +16,7 @@ use crate::numbers::leads::Leads;
 use crate::numbers::pattern_rows::PatternRows;
 use crate::numbers::records::{next_heads_of, records_of, round_heads_of, twice_of};
 use crate::numbers::representatives::Representatives;
+use crate::numbers::room::Room;
 use crate::numbers::rotated_patterns::is_best;
 use crate::numbers::row_numbers::RowNumbers;
 use crate::numbers::rung_leads::LeadNumbers;
@@ -44,15 +45,17 @@ pub struct LeadRecord {
 }
 
 /// The lead heads that leads reach from rounds and the representative rows of all leads rung from them, by numbers, with a
-/// record of each head and step. Two leads have a row in common exactly where they have a representative row in common.
+/// record of each head and step. Two leads have a row in common exactly where they have a number in common, and a lead has
+/// rounds exactly where it has number 0.
 ///
-/// It is seen as the number of steps, the heads, the representative rows, the records, how many numbers each lead has and these
-/// numbers of its representative rows, which leads have a row twice, and of each pattern how many rows of each lead fit it.
+/// It is seen as the number of steps, the heads, how many representative rows there are, the records, how many numbers each lead
+/// has and these numbers of its representative rows, which leads have a row twice, and of each pattern how many rows of each lead fit it.
 #[derive(Drop)]
 pub struct NumberTable {
     steps: u8,
     heads: Vec<Row>,
-    rows: Vec<Row>,
+    // How many representative rows there are.
+    rows: usize,
     // The record of a head and a step stands at head * steps + step.
     records: Vec<LeadRecord>,
     // As many as the lead with most representative rows has. A lead with fewer has its first one again.
@@ -73,7 +76,7 @@ impl Model for NumberTable {
     ghost view = { λ t. record {
       steps = t.steps;
       heads = t.heads.items;
-      rows = t.rows.items;
+      rows = t.rows;
       records = t.records.items;
       width = t.width;
       numbers = t.numbers.items;
@@ -84,7 +87,7 @@ impl Model for NumberTable {
     ghost invariant = { λ t. AreKept (record {
       steps = t.steps;
       heads = t.heads.items;
-      rows = t.rows.items;
+      rows = t.rows;
       records = t.records.items;
       width = t.width;
       numbers = t.numbers.items;
@@ -94,25 +97,25 @@ impl Model for NumberTable {
 }
 
 impl NumberTable {
-    /// The numbers of a problem. None where there are too many of them: more heads that leads reach than the most, or
-    /// than twice the most rows over the changes of the shortest lead, or more rows than the most, or than 4,194,304, or
-    /// more than 67,108,864 numbers (256 MiB), of which each lead has as many as the least width that has room for the lead
-    /// with most representative rows, or so many patterns that their numbers would take more than 16 MiB. Err where no
-    /// memory is left.
+    /// The numbers of a problem. None where they have no room: where there are more heads, or the leads from all heads take more
+    /// than its bytes, each 48 and 12 for each row that tells it (all of its rows, or from nine bells on few of them), or these
+    /// rows are more than its rows, or than 4,194,304, or those of the lead with fewest, from all heads, more than twice as many;
+    /// or where there are more than 67,108,864 numbers (256 MiB), of which each lead has as many as the least width that has
+    /// room for the lead with most representative rows, or so many patterns that their numbers would take more than 16 MiB.
+    /// Err where no memory is left.
     pub fn new(
         alloc: Global,
         problem: &Problem,
         leads: &LeadTable,
         reach: &ReachTable,
-        most_heads: u64,
-        row_limit: u32,
+        room: Room,
     ) -> Result<Option<NumberTable>, NoMemory>
         requires leads { leads.now ≡ lead_table problem.now }
         requires reach { reach.now ≡ reach_table problem.now most_rows }
         ensures { IfOk result (λ table. IfSome table (λ t. IsNumbered problem.now t)) }
     {
         let given = Leads::new(alloc, problem, leads, reach)?;
-        match table_of(alloc, &given, most_heads, row_limit) {
+        match table_of(alloc, &given, room) {
             Ok(table) => Ok(Some(table)),
             Err(Stopped::TooMany) => Ok(None),
             Err(Stopped::NoMemory) => Err(NoMemory),
@@ -154,9 +157,9 @@ impl NumberTable {
 
     /// The number of representative rows.
     pub(crate) fn row_count(&self) -> usize
-        ensures { result ≡ length self.now.rows }
+        ensures { result ≡ self.now.rows }
     {
-        self.rows.len()
+        self.rows
     }
 
     /// The head whose records start here.
@@ -267,15 +270,11 @@ impl NumberTable {
 }
 
 // The table of leads that are rung from at most so many heads and have at most so many rows.
-fn table_of(
-    alloc: Global,
-    leads: &Leads,
-    most_heads: u64,
-    row_limit: u32,
-) -> Result<NumberTable, Stopped>
+fn table_of(alloc: Global, leads: &Leads, room: Room) -> Result<NumberTable, Stopped>
     ensures { IfOk result (λ table. IsNumbered leads.now table) }
 {
-    let made = LeadNumbers::of(alloc, leads, most_heads, row_limit)?;
+    let told = leads.telling_rows(alloc)?;
+    let made = LeadNumbers::of(alloc, leads, &told, room)?;
     let cover = cover_of(alloc, &made)?;
     let representatives = Representatives::of(alloc, &made.rows, &cover)?;
     let named = RowNumbers::of(alloc, &made, &cover, &representatives)?;
@@ -287,7 +286,7 @@ fn table_of(
     Ok(NumberTable {
         steps: leads.count(),
         heads,
-        rows: representatives.rows,
+        rows: representatives.rows.len(),
         records,
         width: named.width,
         numbers: named.numbers,

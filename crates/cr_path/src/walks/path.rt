@@ -397,7 +397,7 @@ impl<'a, const WIDTH: usize, const COUNTS: usize, const STEPS: usize> Path<
         requires end { IsEnd self.now.problem self.now.numbers self.now.node end }
         requires step { step < length self.now.problem.leads }
         ensures are { result.now ≡ numbers_of self.now.numbers (end.base + step) }
-        ensures within { All (λ number. number < length self.now.numbers.rows) result.now }
+        ensures within { All (λ number. number < self.now.numbers.rows) result.now }
     {
         self.numbers
             .numbers_at::<WIDTH>(self.numbers.place(end.base, step))

@@ -6,8 +6,8 @@ ghost use Rattle.cr_model.specs.Callings.{changes_of_all, rows_from, HasSteps};
 ghost use Rattle.cr_model.specs.Dead.{parts_of};
 ghost use Rattle.cr_model.specs.Levels.{is_listed};
 ghost use Rattle.cr_model.specs.Queries.{repeated};
-ghost use Rattle.cr_path.specs.Marks.{AreOf};
-ghost use Rattle.cr_path.specs.Numbers.{IsNumbered, IsTold};
+ghost use Rattle.cr_path.specs.Marks.{TellOf};
+ghost use Rattle.cr_path.specs.Numbers.{IsNumbered};
 ghost use Rattle.cr_path.specs.Parts.{IsHead, HasHead, Passes};
 
 use crate::numbers::table::NumberTable;
@@ -36,9 +36,9 @@ pub fn bring_new_rows<const WIDTH: usize>(
     requires numbered { IsNumbered problem.now numbers.now }
     requires width { numbers.now.width ≡ WIDTH }
     requires steps { HasSteps problem.now node.now }
-    requires counted { length marks.now ≡ length numbers.now.rows }
+    requires counted { length marks.now ≡ numbers.now.rows }
     requires head { HasHead problem.now numbers.now base }
-    ensures { (from : List ℕ) (rows : List (List ℕ)) → IsHead problem.now numbers.now from base → IsTold problem.now numbers.now rows → AreOf numbers.now rows marks.now
+    ensures { (from : List ℕ) (rows : List (List ℕ)) → IsHead problem.now numbers.now from base → TellOf problem.now numbers.now rows marks.now
         → result ≡ not (list_any (is_listed rows) (rows_from from (changes_of_all problem.now (repeated parts node.now)))) }
 {
     let mut base = base;
@@ -62,10 +62,10 @@ fn pass_part<const WIDTH: usize>(
     requires numbered { IsNumbered problem.now numbers.now }
     requires width { numbers.now.width ≡ WIDTH }
     requires steps { HasSteps problem.now node.now }
-    requires counted { length marks.now ≡ length numbers.now.rows }
+    requires counted { length marks.now ≡ numbers.now.rows }
     requires from { HasHead problem.now numbers.now from }
     ensures head { IfSome result (λ base. HasHead problem.now numbers.now base) }
-    ensures passes { (row : List ℕ) (rows : List (List ℕ)) → IsHead problem.now numbers.now row from → IsTold problem.now numbers.now rows → AreOf numbers.now rows marks.now
+    ensures passes { (row : List ℕ) (rows : List (List ℕ)) → IsHead problem.now numbers.now row from → TellOf problem.now numbers.now rows marks.now
         → Passes problem.now numbers.now rows row (changes_of_all problem.now node.now) result }
 {
     let mut base = from;

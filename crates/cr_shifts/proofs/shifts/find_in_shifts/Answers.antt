@@ -1,7 +1,6 @@
-use Rattle.std.proofs.Common.{[], None, sym, subst}
+use Rattle.std.proofs.Common.{None, sym, subst}
 use Rattle.cr_store.specs.Written.{lists}
 use Rattle.cr_trail.specs.Runs.{RunsOn}
-use Rattle.cr_shifts.specs.Shifts.{GoesOn}
 use Rattle.cr_shifts.proofs.Whole.{whole_run}
 use Rattle.cr_shifts.proofs.shifts.find_in_shifts.Goals as goal
 
@@ -12,5 +11,4 @@ returns-clause-run g c =
     let jobs = lists c.args.before.left.jobs.items in
     let now = c.find_all.new.found.items in
     subst (λ left. RunsOn p found jobs None now (lists left)) (sym c.new.ensures.items)
-    (whole_run c.sizes_are_sums.ensures.none p found jobs now c.requires
-    (subst (λ nodes. GoesOn p nodes found now []) c.in_ok-nodes.ensures c.in_ok-find_all.ensures))
+    (whole_run c.sizes_are_sums.ensures.none p found jobs now c.requires c.in_ok-find_all.ensures)

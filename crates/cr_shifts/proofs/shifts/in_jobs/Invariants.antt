@@ -1,15 +1,11 @@
-use Rattle.std.proofs.Common.{◌≡◌, ◌<◌, ◌++◌, length, All}
+use Rattle.std.proofs.Common.{◌≡◌, ◌<◌, length, All}
 use Rattle.cr_model.specs.Checkpoints.{nodes_of_jobs}
 use Rattle.cr_store.specs.Written.{lists}
 use Rattle.cr_shifts.proofs.shifts.in_jobs.Given as goal
 
-abbrev pub invariant-loop-job : goal.invariant-loop-job
-invariant-loop-job l = record {
-  some : 0 < length l.job.items;
-  size : 0 < l.size;
-  all : nodes_of_jobs (lists l.jobs.items) ++ l.job.items ≡ l.fn.nodes.items;
+abbrev pub invariant-loop-nodes : goal.invariant-loop-nodes
+invariant-loop-nodes l = record {
+  all : nodes_of_jobs (lists l.jobs.items) ≡ nodes_of_jobs (lists l.yielded);
   filled : All (λ job. 0 < length job) (lists l.jobs.items);
+  later : All (λ job. 0 < length job) (lists l.nodes-iterator.rest.items);
 }
-
-abbrev pub decreases-loop-job : goal.decreases-loop-job
-decreases-loop-job l = length l.job.items

@@ -5,7 +5,7 @@ use Rattle.cr_path.proofs.numbers.rung_leads.number_leads.Given as goal
 
 abbrev pub invariant-loop-step : goal.invariant-loop-step
 invariant-loop-step l = record {
-  begun : IsBegun l.leads (numbers_in l.leads l.made) (l.place * length l.leads.leads + l.step);
+  begun : IsBegun l.leads l.told (numbers_in l.leads l.made) (l.place * length l.leads.leads + l.step);
   place : l.place < length l.made.heads.rows;
   few : length l.made.heads.rows ≤ l.most_heads;
 }

@@ -1,4 +1,4 @@
-use Rattle.std.proofs.Common.{◌≡◌, ◌*◌, ◌∙◌, ℕ, Bool, List, length, map, All, sym, ap, ap₂, subst}
+use Rattle.std.proofs.Common.{◌≡◌, ◌*◌, ◌∙◌, ℕ, Bool, List, length, map, All, sym, ap, ap₂, subst, arith}
 use Rattle.cr_path.specs.Begun.{numbers_in}
 use Rattle.cr_path.specs.Numbers.{NumberParts, all_fitting, comes_round, IsNumbered}
 use Rattle.cr_path.specs.Representatives.{AreRepresentatives, name_of, AreLike, AreNamed}
@@ -50,17 +50,19 @@ returns c =
     c.in_ok-round_heads.ensures ∙ ap (λ (rows : List (List ℕ)). map (comes_round p) rows) heads_are in
     let fitting : c.in_ok-fittings.fittings.items ≡ map (all_fitting p made.heads.rows) p.query.patterns =
     c.in_ok-fittings.ensures ∙ ap (λ (rows : List (List ℕ)). map (all_fitting p rows) p.query.patterns) (c.deref-6.ensures.value ∙ c.in_ok-heads.ensures) in
-    let parts : ℕ → List (List ℕ) → NumberParts = (λ steps heads. record {
+    let parts : ℕ → List (List ℕ) → ℕ → NumberParts = (λ steps heads rows. record {
       steps = steps;
       heads = heads;
-      rows = representatives;
+      rows = rows;
       records = records;
       width = named.width;
       numbers = named.numbers.items;
       twice = c.in_ok-twice.twice.items;
       fittings = c.in_ok-fittings.fittings.items;
     }) in
-    subst (λ (steps : ℕ). IsNumbered p (parts steps c.in_ok-heads.heads.items)) (sym c.count-2.ensures.is)
-    (subst (λ (heads : List (List ℕ)). IsNumbered p (parts (length p.leads) heads)) (sym c.in_ok-heads.ensures)
-    (told_whole p (numbers_in p made) c.in_ok-made.ensures cover c.in_ok-cover.ensures representatives places told records round_heads named.width named.numbers.items
-    c.in_ok-twice.twice.items like round_heads_are are_named c.in_ok-twice.ensures c.in_ok-fittings.fittings.items fitting))
+    let counted : c.len.result ≡ length representatives = omega (arith, c.len.ensures, c.in_ok-representatives.representatives.rows.ok.0) in
+    subst (λ (rows : ℕ). IsNumbered p (parts c.count-2.result c.in_ok-heads.heads.items rows)) (sym counted)
+    (subst (λ (steps : ℕ). IsNumbered p (parts steps c.in_ok-heads.heads.items (length representatives))) (sym c.count-2.ensures.is)
+    (subst (λ (heads : List (List ℕ)). IsNumbered p (parts (length p.leads) heads (length representatives))) (sym c.in_ok-heads.ensures)
+    (told_whole p c.in_ok-told.told c.in_ok-told.ensures (numbers_in p made) c.in_ok-made.ensures cover c.in_ok-cover.ensures representatives places told records round_heads named.width named.numbers.items
+    c.in_ok-twice.twice.items like round_heads_are are_named c.in_ok-twice.ensures c.in_ok-fittings.fittings.items fitting)))

@@ -1,4 +1,4 @@
-use Rattle.std.proofs.Common.{◌≡◌, ◌<◌, ◌≤◌, inl, inr, ap, ◌∙◌, subst, arith}
+use Rattle.std.proofs.Common.{◌≡◌, inl, inr, ap, ◌∙◌, subst, arith}
 use Rattle.cr_model.specs.Sizes.{most_rows, size_of_all}
 use Rattle.cr_model.specs.Sound.{IsSound}
 use Rattle.cr_trail.proofs.Going.{some_nodes}

@@ -1,4 +1,5 @@
-use Rattle.std.proofs.Common.{◌≡◌, ◌*◌, ℕ, length, ap, arith}
+use Rattle.std.proofs.Common.{◌≡◌, ◌*◌, ℕ, length, refl, ap, arith}
+use Rattle.cr_leads.specs.Tables.{lead_table, leads_counted}
 use Rattle.cr_path.specs.Begun.{numbers_in}
 use Rattle.cr_path.proofs.Recorded.{rung_whole}
 use Rattle.cr_path.proofs.numbers.rung_leads.LeadNumbers.of.Goals as goal
@@ -9,4 +10,9 @@ returns c =
     let made = c.loop-place.made in
     let place = c.loop-place.place in
     let all : place ≡ length made.heads.rows = omega (arith, c.loop-place-test.false, c.len.ensures.is, c.loop-place.invariant.place) in
-    rung_whole p (numbers_in p made) (place * length p.leads) c.loop-place.invariant.begun (ap (λ (n : ℕ). n * length p.leads) all)
+    rung_whole p c.args.told.now (numbers_in p made) (place * length p.leads) c.loop-place.invariant.begun (ap (λ (n : ℕ). n * length p.leads) all)
+
+pub head_limit-most_heads-requires : goal.head_limit-most_heads-requires
+head_limit-most_heads-requires c =
+    let p = c.args.leads.now in
+    omega (arith, c.count.ensures.is, c.requires.of_leads.counted, leads_counted (lead_table p) p refl)

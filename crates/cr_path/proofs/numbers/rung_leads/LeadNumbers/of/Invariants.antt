@@ -5,7 +5,7 @@ use Rattle.cr_path.proofs.numbers.rung_leads.LeadNumbers.of.Given as goal
 
 abbrev pub invariant-loop-place : goal.invariant-loop-place
 invariant-loop-place l = record {
-  begun : IsBegun l.leads (numbers_in l.leads l.made) (l.place * length l.leads.leads);
+  begun : IsBegun l.leads l.told (numbers_in l.leads l.made) (l.place * length l.leads.leads);
   place : l.place ≤ length l.made.heads.rows;
   few : length l.made.heads.rows ≤ l.most_heads;
 }

@@ -1,15 +1,15 @@
-use Rattle.std.proofs.Common.{◌≡◌, ℕ, ◌-◌, ◌+◌, ◌<◌, List, length, get_or, refl, sym, ap, ◌∙◌, subst, arith}
+use Rattle.std.proofs.Common.{◌≡◌, ℕ, ◌-◌, ◌+◌, ◌<◌, List, length, get_or, sym, ap, ◌∙◌, subst, arith}
 use Rattle.cr_query.specs.Meters.{MeterParts}
 use Rattle.cr_model.specs.Callings.{head_of}
-use Rattle.cr_path.specs.declared.numbers.table.LeadRecord.{LeadRecord}
 use Rattle.cr_path.specs.Numbers.{numbers_of}
 use Rattle.cr_path.specs.Counted.{IsCounted}
-use Rattle.cr_path.specs.Ends.{final_step, HasEnds}
+use Rattle.cr_path.specs.Ends.{final_step, ends_of, HasEnds}
 use Rattle.cr_path.specs.Walks.{PathParts, IsWalk, parent}
-use Rattle.cr_path.proofs.Children.{last_step}
+use Rattle.cr_path.proofs.Children.{valid_first, last_step}
+use Rattle.cr_path.proofs.Enough.{told_after}
 use Rattle.cr_path.proofs.Places.{some_head}
 use Rattle.cr_path.proofs.Counts.{of_meter}
-use Rattle.cr_path.proofs.Walking.{no_record, step_tabled, last_known, from_end, have_marks, marked_back, returned}
+use Rattle.cr_path.proofs.Walking.{step_tabled, last_known, have_marks, marked_back, returned}
 use Rattle.cr_path.proofs.walks.path.Path.back.Goals as goal
 
 pub place-place-requires-clause-base : goal.place-place-requires-clause-base
@@ -63,13 +63,12 @@ invariant_of-self g c =
     let step : ℕ = get_or c.steps.result.now index 0 in
     let last : index ≡ length w.steps - 1 = ap (λ (word : List ℕ). length word - 1) c.steps-number.ensures.is in
     let step_is : step ≡ get_or w.steps index 0 = ap (λ (word : List ℕ). get_or word index 0) c.steps.ensures.is in
-    let lead : LeadRecord = get_or t.records c.place-place.result no_record in
-    let known = from_end p w.leads.now t w.steps w.next w.ends w.marks.marks w.marks.unmarked w.counting.value w.turn_free is (parent w.steps) c.last-base.result step c.place-place.result lead no_record
-    at_end (last_known p w.leads.now t w.steps w.next w.ends w.marks.marks w.marks.unmarked w.counting.value w.turn_free is step index some last step_is) c.place-place.ensures.is refl in
     let whole = last_step w.steps step index some last step_is in
-    let marked = marked_back p w.leads.now t w.steps w.next w.ends w.marks.marks w.marks.unmarked w.counting.value w.turn_free is (parent w.steps) step (c.last-base.result.base + step) lead c.numbers_at.result.now c.take_back.new.self whole
-    known (c.numbers_at.ensures ∙ ap (numbers_of t) c.place-place.ensures.is) c.take_back.ensures.long c.take_back.ensures.taken c.take_back.ensures.same in
     let inside = last_known p w.leads.now t w.steps w.next w.ends w.marks.marks w.marks.unmarked w.counting.value w.turn_free is step index some last step_is in
+    let told = told_after p t is.numbered (parent w.steps) (final_step w.steps + 1) (ends_of (parent w.steps) c.pop.new.self) (c.pop.ensures p t w.steps w.next many is.ends) (valid_first p w.steps (length w.steps - 1) is.valid)
+    c.last-base.result step at_end inside in
+    let marked = marked_back p w.leads.now t w.steps w.next w.ends w.marks.marks w.marks.unmarked w.counting.value w.turn_free is (parent w.steps) step (c.last-base.result.base + step) c.numbers_at.result.now c.take_back.new.self whole
+    (ap (λ b. b + step) at_end.by_records) told (c.numbers_at.ensures ∙ ap (numbers_of t) c.place-place.ensures.is) c.take_back.ensures.long c.take_back.ensures.taken c.take_back.ensures.same in
     let at_last : step ≡ final_step w.steps = step_is ∙ ap (λ n. get_or w.steps n 0) last in (
       subst (λ (n : List ℕ). IsWalk p w.leads.now t n (step + 1) c.pop.new.self c.take_back.new.self.marks c.take_back.new.self.unmarked c.take_back-2.new.self w.turn_free) (sym c.pop-2.ensures)
           (returned p w.leads.now t w.steps w.next w.ends w.marks.marks w.marks.unmarked w.counting.value w.turn_free is (step + 1) c.pop.new.self c.take_back.new.self.marks c.take_back.new.self.unmarked c.take_back-2.new.self (omega (arith, inside))

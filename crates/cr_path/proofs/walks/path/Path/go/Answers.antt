@@ -1,4 +1,4 @@
-use Rattle.std.proofs.Common.{ℕ, ◌≡◌, ◌+◌, ◌<◌, ◌∙◌, List, length, sym, ap, subst, arith}
+use Rattle.std.proofs.Common.{ℕ, ◌≡◌, ◌+◌, ◌<◌, ◌∙◌, List, length, get_or, sym, ap, subst, arith}
 use Rattle.cr_model.specs.Callings.{rows_of, head_of}
 use Rattle.cr_model.specs.Decided.{rows_differ}
 use Rattle.cr_model.specs.Nodes.{IsValid}
@@ -85,6 +85,8 @@ invariant_of-self g c =
     let at_end = c.last-end.ensures.is p t w.steps w.next is.ends in
     let known = from_end p w.leads.now t w.steps w.next w.ends w.marks.marks w.marks.unmarked w.counting.value w.turn_free is w.steps end c.args.step place lead lead
     at_end (step_known p w.steps c.args.step valid) c.place-place.ensures.is c.lead_at-lead.ensures in
+    let inside : end.base + c.args.step < length t.records = omega (arith, c.place-place.ensures.is, c.place-place.ensures.within) in
+    let lead_is : lead ≡ get_or t.records (end.base + c.args.step) lead = c.lead_at-lead.ensures ∙ ap (λ (n : ℕ). get_or t.records n lead) c.place-place.ensures.is in
     let numbers_are = c.numbers_at.ensures ∙ ap (numbers_of t) c.place-place.ensures.is in
     let left = subst (λ (v : PathParts). AreUncut v.problem v.node (c.args.step + 1) c.args.left) (sym c.self.view_is) c.requires.left in
     let all : c.count-self-inside.result ≡ length p.leads = c.count-self-inside.ensures.of_problem p is.table in
@@ -92,8 +94,8 @@ invariant_of-self g c =
       subst (λ (n : List ℕ). IsWalk p w.leads.now t n c.count-self-inside.result c.push.new.self c.add.new.self.marks c.add.new.self.unmarked c.add_lead.new.self w.turn_free) (sym c.push-2.ensures)
           (walked p w.leads.now t w.steps w.next w.ends w.marks.marks w.marks.unmarked w.counting.value w.turn_free is c.args.step c.count-self-inside.result c.push.new.self c.add.new.self.marks c.add.new.self.unmarked c.add_lead.new.self valid (omega (arith, all))
           (c.push.ensures p t w.steps w.next c.args.step c.count-self-inside.result (ap length c.steps.ensures.is) is.ends left
-          (subst (λ (more : ℕ). IsEnd p t (child w.steps c.args.step) (record { base = lead.next; rung = end.rung + more; left = c.no_steps.result; round = c.from-2.result })) (sym c.from.ensures) (next_end p t w.steps c.args.step end lead c.no_steps.result c.from-2.result at_end known c.from-2.ensures)) after)
-          (marked_on p w.leads.now t w.steps w.next w.ends w.marks.marks w.marks.unmarked w.counting.value w.turn_free is c.args.step (end.base + c.args.step) lead c.numbers_at.result.now c.args.is_new c.add.new.self known numbers_are new
+          (subst (λ (more : ℕ). IsEnd p t (child w.steps c.args.step) (record { base = lead.next; rung = end.rung + more; left = c.no_steps.result; round = c.from-2.result })) (sym c.from.ensures) (next_end p t w.steps c.args.step end lead c.no_steps.result c.from-2.result at_end known c.from-2.ensures inside lead_is)) after)
+          (marked_on p w.leads.now t w.steps w.next w.ends w.marks.marks w.marks.unmarked w.counting.value w.turn_free is c.args.step (end.base + c.args.step) c.numbers_at.result.now c.args.is_new c.add.new.self (ap (λ b. b + c.args.step) at_end.by_records) numbers_are new
           c.add.ensures.long c.add.ensures.added c.add.ensures.same)
           (c.add_lead.ensures.counted p w.steps (subst (IsCounted p w.steps) (sym c.deref_mut.ensures.value) is.counted))),
       c.self.invariant.1,

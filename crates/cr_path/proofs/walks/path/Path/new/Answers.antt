@@ -1,4 +1,4 @@
-use Rattle.std.proofs.Common.{◌≡◌, ◌∙◌, ℕ, List, [], false, length, sym, ap, subst}
+use Rattle.std.proofs.Common.{◌≡◌, ◌∙◌, ℕ, List, [], false, sym, ap, subst}
 use Rattle.std.specs.Prelude.{replicate}
 use Rattle.cr_model.specs.Dead.{turn_free}
 use Rattle.cr_model.specs.Problems.{QueryParts}
@@ -17,7 +17,7 @@ invariant_of-result g c =
     let counting = c.in_ok-counting.counting.value in
     let free = c.turn_free.result in
     let none : ℕ → MarksParts = (λ rows. record { marks = replicate rows false; unmarked = 0 }) in
-    let marks_are : c.in_ok-marks.marks ≡ none (length t.rows) = c.in_ok-marks.ensures ∙ ap none c.row_count.ensures in
+    let marks_are : c.in_ok-marks.marks ≡ none t.rows = c.in_ok-marks.ensures ∙ ap none c.row_count.ensures in
     let numbers_are : c.of.result ≡ t = c.of.ensures in (
       subst (λ (numbers : NumberParts). IsWalk p leads numbers c.in_ok-steps.steps c.count.result c.in_ok-ends.ends c.in_ok-marks.marks.marks c.in_ok-marks.marks.unmarked counting free) (sym numbers_are)
           (subst (λ (node : List ℕ). IsWalk p leads t node c.count.result c.in_ok-ends.ends c.in_ok-marks.marks.marks c.in_ok-marks.marks.unmarked counting free) (sym c.in_ok-steps.ensures)

@@ -27,5 +27,5 @@ returns-clause-are g c =
 pub returns-clause-within : goal.returns-clause-within
 returns-clause-within g c =
     let w = c.self.inside in
-    subst (λ (v : PathParts). All (λ number. number < length v.numbers.rows) c.numbers_at.result.now) c.self.view_is
-    (subst (All (λ number. number < length w.numbers.rows)) (sym c.numbers_at.ensures) (within_in w.problem.now w.numbers c.self.invariant.0.numbered c.place.result))
+    subst (λ (v : PathParts). All (λ number. number < v.numbers.rows) c.numbers_at.result.now) c.self.view_is
+    (subst (All (λ number. number < w.numbers.rows)) (sym c.numbers_at.ensures) (within_in w.problem.now w.numbers c.self.invariant.0.numbered c.place.result))

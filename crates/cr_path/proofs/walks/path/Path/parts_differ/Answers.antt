@@ -7,13 +7,13 @@ use Rattle.cr_model.specs.Levels.{is_listed}
 use Rattle.cr_model.specs.OneTurn.{touch_of}
 use Rattle.cr_model.specs.Queries.{repeated}
 use Rattle.cr_path.specs.Ends.{ends_of}
-use Rattle.cr_path.specs.Marks.{AreOf}
-use Rattle.cr_path.specs.Numbers.{NumberParts, IsBase, IsTold}
+use Rattle.cr_path.specs.Marks.{TellOf}
+use Rattle.cr_path.specs.Numbers.{NumberParts, IsBase, places_of}
 use Rattle.cr_path.specs.Walks.{PathParts}
 use Rattle.cr_path.proofs.Children.{head_long}
 use Rattle.cr_path.proofs.Marking.{all_fresh, marks_of}
 use Rattle.cr_path.proofs.Multiplied.{touch_told}
-use Rattle.cr_path.proofs.Enough.{told_all}
+use Rattle.cr_path.proofs.Enough.{marks_tell, told_all}
 use Rattle.cr_path.proofs.walks.path.Path.parts_differ.Goals as goal
 
 pub bring_new_rows-requires-clause-head : goal.bring_new_rows-requires-clause-head
@@ -35,8 +35,8 @@ returns g c =
     let told = told_all p t c.self.invariant.0.numbered w.steps w.next (ends_of w.steps w.ends) c.self.invariant.0.ends c.self.invariant.0.valid in
     let marked = marks_of p t w.steps w.marks.marks (length w.steps - w.marks.unmarked) c.self.invariant.0.marked.are (all_fresh p t w.steps w.marks.marks (length w.steps - w.marks.unmarked) c.self.invariant.0.marked.are differ) in
     c.bring_new_rows.ensures (head_of p w.steps) (rows_of p w.steps) (record { from = from; long = head_long p w.steps })
-    (subst (λ (t : NumberParts). IsTold p t (rows_of p w.steps)) (sym c.table.ensures) told)
-    (subst (λ (t : NumberParts). AreOf t (rows_of p w.steps) c.marks.result.now) (sym c.table.ensures) (subst (AreOf t (rows_of p w.steps)) (sym c.marks.ensures) marked))
+    (subst (λ (t : NumberParts). TellOf p t (rows_of p w.steps) c.marks.result.now) (sym c.table.ensures)
+    (subst (TellOf p t (rows_of p w.steps)) (sym c.marks.ensures) (marks_tell p t c.self.invariant.0.numbered (places_of t w.steps) (rows_of p w.steps) w.marks.marks told marked)))
     ∙ ap (λ (word : List ℕ). not (list_any (is_listed (rows_of p w.steps)) (rows_from (head_of p w.steps) (changes_of_all p (repeated c.parts_to_try-parts.result word))))) c.steps.ensures.is
     ∙ touch_told p w.steps c.parts_to_try-parts.result differ round c.parts_to_try-parts.ensures.within c.parts_to_try-parts.ensures.enough
     ∙ ap (λ (v : PathParts). rows_differ (rows_of v.problem (touch_of v.problem v.node))) c.self.view_is

@@ -1,5 +1,0 @@
-use Rattle.std.proofs.Common.{◌*◌, ◌≤◌}
-use Rattle.cr_path.proofs.numbers.rung_leads.changes_of_all.Given as goal
-
-abbrev pub invariant-loop-step : goal.invariant-loop-step
-invariant-loop-step l = l.changes ≤ 128 * l.step
