@@ -9,7 +9,7 @@ use Rattle.std.proofs.lemmas.List.Elements.{All-head, All-tail}
 use Rattle.cr_model.specs.declared.query.Count.{Count}
 use Rattle.cr_model.specs.declared.query.MethodCount.{MethodCount}
 use Rattle.cr_model.specs.Problems.{PatternParts, ProblemParts}
-use Rattle.cr_model.specs.Callings.{HasSteps, mark_of, letter_of}
+use Rattle.cr_model.specs.Callings.{HasSteps, length_of, mark_of, letter_of}
 use Rattle.cr_model.specs.Queries.{part_cap}
 use Rattle.cr_model.specs.Sound.{IsSound}
 use Rattle.cr_model.specs.Dead.{parts_of}
@@ -27,7 +27,7 @@ use Rattle.cr_ahead.proofs.InUnits.{same_steps, answer_in_changes}
 use Rattle.cr_ahead.proofs.LeadMoves.{tells_touches, counted_adds, fitting_adds}
 
 -- a gain among all of them
-gains_at : (places steps : ℕ) (gain : ℕ → ℕ → ℕ) (place step : ℕ) → place < places → step < steps
+pub gains_at : (places steps : ℕ) (gain : ℕ → ℕ → ℕ) (place step : ℕ) → place < places → step < steps
     → get_or (gains_from places steps gain) (place * steps + step) 0 ≡ gain place step
 gains_at places steps gain place step inside known =
     let within : place * steps + step < places * steps = omega (arith, mul-add-lt place steps step places inside known, mul_comm steps places) in
@@ -35,7 +35,7 @@ gains_at places steps gain place step inside known =
     ∙ ap (λ (n : ℕ). gain n ((place * steps + step) % steps)) (div-mul-add place steps step known)
     ∙ ap (gain place) (mod-mul-add place steps step known)
 
-have_gains : (p : ProblemParts) (heads : List (List ℕ)) (m : MovesParts) (gain : ℕ → ℕ → ℕ) → AreMovesOf p heads m
+pub have_gains : (p : ProblemParts) (heads : List (List ℕ)) (m : MovesParts) (gain : ℕ → ℕ → ℕ) → AreMovesOf p heads m
     → m.gains ≡ gains_from (length heads) (length p.leads) gain → HaveGains p heads m gain
 have_gains p heads m gain moves are place step inside known =
     ap (λ (gains : List ℕ). get_or gains (place * steps_of m + step) 0) are
@@ -71,20 +71,27 @@ rows_add p heads gains pattern sound one are m moves same place node way at step
     (have_gains p heads m (λ place step. fitting_gain p pattern.cells (get_or heads place []) step) moves (same ∙ are)) way steps
     ∙ ap (λ (n : ℕ). n * ((pattern_item p pattern).number_of node + gain_of m place way)) (sym one)
 
--- what a table of the moves says
+-- what a table of the moves answers at a node's length, in changes
+pub answer_of : (p : ProblemParts) (heads : List (List ℕ)) (range : Range) (m : MovesParts) (t : AheadParts) → AreGround p heads range m
+    → IsAhead m range.least range.greatest t → (place long : ℕ) (node : List ℕ) → place < length heads → length_of p node ≡ range.unit * long
+    → IsAnswer (in_changes range.unit m) (part_least p) (part_cap p) place (length_of p node) (answer_at t place long)
+answer_of p heads range m t ground ahead place long node there is =
+    let within : place < places_of m = omega (arith, there, ground.moves.places) in
+    let answer : IsAnswer m (units_for range.unit (part_least p)) (units_in range.unit (part_cap p)) place long (answer_at t place long) =
+    subst (λ (n : ℕ). IsAnswer m (units_for range.unit (part_least p)) n place long (answer_at t place long)) ground.lengths.to
+    (subst (λ (n : ℕ). IsAnswer m n range.greatest place long (answer_at t place long)) ground.lengths.from (ahead.answers place long within)) in
+    subst (λ (n : ℕ). IsAnswer (in_changes range.unit m) (part_least p) (part_cap p) place n (answer_at t place long)) (sym is)
+    (answer_in_changes range.unit m ground.lengths.is_unit.some (part_least p) (part_cap p) place long (answer_at t place long) answer)
+
+-- what it says
 pub table_of : (p : ProblemParts) (heads : List (List ℕ)) (range : Range) (m : MovesParts) (item : Item) (t : AheadParts) → AreGround p heads range m
     → AddUp p heads (in_changes range.unit m) item → IsAhead m range.least range.greatest t → IsTableOf p heads range.unit item t
 table_of p heads range m item t ground adds ahead = record {
   places = ahead.places ∙ ground.moves.places;
   tells = λ place long node at is.
-      let within : place < places_of m = omega (arith, at.there, ground.moves.places) in
-      let answer : IsAnswer m (units_for range.unit (part_least p)) (units_in range.unit (part_cap p)) place long (answer_at t place long) =
-      subst (λ (n : ℕ). IsAnswer m (units_for range.unit (part_least p)) n place long (answer_at t place long)) ground.lengths.to
-      (subst (λ (n : ℕ). IsAnswer m n range.greatest place long (answer_at t place long)) ground.lengths.from (ahead.answers place long within)) in
       tells_touches p heads (in_changes range.unit m) place node ground.sound ground.moves at (number_with p node item) (parts_of p) (item.number_of node)
       (λ way steps. adds place node way at steps) (answer_at t place long)
-      (subst (λ (n : ℕ). IsAnswer (in_changes range.unit m) (part_least p) (part_cap p) place n (answer_at t place long)) (sym is)
-      (answer_in_changes range.unit m ground.lengths.is_unit.some (part_least p) (part_cap p) place long (answer_at t place long) answer));
+      (answer_of p heads range m t ground ahead place long node at.there is);
 }
 
 -- other gains lead to the same places

@@ -27,7 +27,7 @@ abbrev pub Within : List ℕ → Item → Type 0
 Within calling item = IsWithin item.min item.max (item.number_of calling)
 
 module _ (p : ProblemParts) (calling : List ℕ) where
-  com_within : (limits : Option Com) → MeetsCom limits (changes_of_method p calling) → All (Within calling) (com_items p limits)
+  pub com_within : (limits : Option Com) → MeetsCom limits (changes_of_method p calling) → All (Within calling) (com_items p limits)
   com_within None meets = All-nil (Within calling)
   com_within (Some limits) meets =
       All-cons (Within calling) (com_item p limits) [] meets (All-nil (Within calling))

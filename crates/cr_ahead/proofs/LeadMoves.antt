@@ -1,5 +1,5 @@
 -- Moves from lead head to lead head go the ways home, and what they gain.
-use Rattle.std.proofs.Common.{◌≡◌, ℕ, zero, suc, ◌+◌, ◌-◌, ◌*◌, ◌/◌, ◌<◌, ◌≤◌, ◌⊎◌, ◌↔◌, Bool, cond, ◌||◌, ℤ, pos, ◌≤ℤ◌, ◌<ℤ◌, int_lt, nat_abs, nat_eq, List, [], ◌∷◌, ◌++◌, length, get_or, count_by, All, Option, Some, None, IsNone, Decides, inl, inr, refl, sym, ap, ◌∙◌, subst, arith, rules, append-nil, length-append}
+use Rattle.std.proofs.Common.{◌≡◌, ℕ, zero, suc, ◌+◌, ◌-◌, ◌*◌, ◌/◌, ◌<◌, ◌≤◌, ◌⊎◌, ◌↔◌, Bool, true, false, cond, ◌||◌, ℤ, pos, ◌≤ℤ◌, ◌<ℤ◌, int_lt, nat_abs, nat_eq, List, [], ◌∷◌, ◌++◌, length, get_or, count_by, All, Option, Some, None, IsNone, Decides, inl, inr, refl, sym, ap, ◌∙◌, subst, arith, rules, append-nil, length-append}
 use Rattle.std.proofs.Math.Nat.{mul_comm, mul-le-mul_left}
 use Rattle.std.proofs.lemmas.Bool.Decides.{Decides-or, Decides-like, same_from_decides}
 use Rattle.std.proofs.lemmas.Int.{ints}
@@ -125,6 +125,32 @@ behind_node p [] [] = refl
 behind_node p [] (step ∷ way) = omega (arith, behind_step p step way)
 behind_node p (step ∷ []) way = omega (arith, behind_step p step way)
 behind_node p (step ∷ next ∷ node) way = omega (arith, behind_node p (next ∷ node) way)
+
+-- one lead more
+pub changed_more : (p : ProblemParts) (node : List ℕ) (step : ℕ) → changes_of_method p (node ++ step ∷ []) ≡ changes_of_method p node + changing_gain p (last_method p node) step
+changed_more p node step = omega (arith, behind_node p node (step ∷ []))
+
+pub last_more : (p : ProblemParts) (node : List ℕ) (step : ℕ) → last_method p (node ++ step ∷ []) ≡ Some (method_of p step)
+last_more p [] step = refl
+last_more p (first ∷ []) step = refl
+last_more p (first ∷ next ∷ node) step = last_more p (next ∷ node) step
+
+-- the last of some leads
+pub last_at_end : (p : ProblemParts) (node : List ℕ) (i d : ℕ) → i + 1 ≡ length node → last_method p node ≡ Some (method_of p (get_or node i d))
+last_at_end p [] i d all = absurd (omega (arith, all))
+last_at_end p (first ∷ []) zero d all = refl
+last_at_end p (first ∷ []) (suc i) d all = absurd (omega (arith, all))
+last_at_end p (first ∷ next ∷ node) zero d all = absurd (omega (arith, all))
+last_at_end p (first ∷ next ∷ node) (suc i) d all = last_at_end p (next ∷ node) i d (omega (arith, all))
+
+no_change : (b : Bool) → cond b 0 1 ≤ 1
+no_change true = omega arith
+no_change false = omega arith
+
+pub few_changes : (p : ProblemParts) (node : List ℕ) → changes_of_method p node ≤ length node
+few_changes p [] = omega arith
+few_changes p (step ∷ []) = omega arith
+few_changes p (step ∷ next ∷ node) = omega (arith, no_change (nat_eq (method_of p step) (method_of p next)), few_changes p (next ∷ node))
 
 module _ (p : ProblemParts) (heads : List (List ℕ)) (m : MovesParts) (moves : AreMovesOf p heads m) (methods : List (Option ℕ)) (have : HaveMethods p heads m methods)
     (gains : HaveGains p heads m (λ place step. changing_gain p (get_or methods place None) step)) where

@@ -13,4 +13,5 @@ pub mod PartEnds
 pub mod InUnits
 pub mod ItemTables
 pub mod HeadMoves
+pub mod ByMethod
 pub mod Outlooks

@@ -11,4 +11,5 @@ pub mod Examples
 pub mod Exact
 pub mod Units
 pub mod Gaining
+pub mod ByMethod
 pub mod Outlooks

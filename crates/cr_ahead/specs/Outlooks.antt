@@ -1,8 +1,10 @@
 -- Outlooks: what tables of moves say of a problem's touches, as contracts see it.
 use Rattle.std.specs.Prelude.{◌≡◌, ℕ, ◌+◌, ◌*◌, ◌<◌, ◌≤◌, Bool, true, false, pos, List, [], length, get_or, All, Option, Some, None, IfSome}
 use Rattle.std.specs.List.{AllZip}
+use Rattle.cr_model.specs.declared.query.Com.{Com}
 use Rattle.cr_model.specs.Problems.{ProblemParts}
 use Rattle.cr_model.specs.Callings.{HasSteps, changes_of, length_of}
+use Rattle.cr_model.specs.Queries.{changes_of_method}
 use Rattle.cr_model.specs.Levels.{head_from}
 use Rattle.cr_model.specs.Sound.{IsSound}
 use Rattle.cr_model.specs.Dead.{parts_of}
@@ -13,8 +15,9 @@ use Rattle.cr_ahead.specs.Ways.{gain_of, Tells}
 use Rattle.cr_ahead.specs.Tables.{AheadParts, answer_at}
 use Rattle.cr_ahead.specs.Home.{touch_with, IsWayHome}
 use Rattle.cr_ahead.specs.Items.{Item, number_with}
-use Rattle.cr_ahead.specs.LeadMoves.{AreMovesOf, IsPlaceOf, of_touches, refuses}
-use Rattle.cr_ahead.specs.Exact.{exact_items}
+use Rattle.cr_ahead.specs.LeadMoves.{AreMovesOf, IsPlaceOf, last_method, of_touches, refuses}
+use Rattle.cr_ahead.specs.Exact.{exact_com, head_items}
+use Rattle.cr_ahead.specs.ByMethod.{places_each, place_by}
 use Rattle.cr_ahead.specs.Units.{IsUnit, IsRange, in_changes}
 
 -- the place of the head that a step leads to, by place and step, place after place
@@ -66,34 +69,60 @@ AreItemTables p heads unit items tables = AllZip (IsItemTable p heads unit) item
 abbrev pub no_item : Item
 no_item = record { number_of = λ calling. 0; min = pos 0; max = pos 0 }
 
--- a table that tells only whether there is a way home. There is one exactly where there are no items
+-- a table that tells only whether there is a way home. There is one exactly where there are no items of which the head tells all
 abbrev pub IsHomeTable : ProblemParts → List (List ℕ) → ℕ → Option AheadParts → Type 0
-IsHomeTable p heads unit None = 0 < length (exact_items p)
-IsHomeTable p heads unit (Some table) = (exact_items p ≡ []) × IsTableOf p heads unit no_item table
+IsHomeTable p heads unit None = 0 < length (head_items p)
+IsHomeTable p heads unit (Some table) = (head_items p ≡ []) × IsTableOf p heads unit no_item table
 
--- the unit of length, the number of parts of a touch, the number of places, and the tables
+-- what a table answers for the place of a node's head with the method of its last lead, and the node's length in units, says
+-- of the changes of method of its whole touches
+pub record IsTableByMethod (p : ProblemParts) (heads : List (List ℕ)) (unit : ℕ) (table : AheadParts) : Type 0 where
+  pub places : table.places ≡ length heads * places_each p
+  pub tells : (place long : ℕ) (node : List ℕ) → IsPlaceOf p heads place node → length_of p node ≡ unit * long
+      → Tells (IsWayHome p node) (λ way. changes_of_method p (touch_with p node way))
+      (of_touches (parts_of p) (changes_of_method p node) (answer_at table (place_by (places_each p) place (last_method p node)) long))
+
+-- of the limit on changes of method: its limits and its table. There is one exactly where there is the limit
+pub record IsLimitTable (p : ProblemParts) (heads : List (List ℕ)) (unit : ℕ) (limits : Com) (of_item : ItemTable) : Type 0 where
+  pub min : of_item.min ≡ limits.min
+  pub max : of_item.max ≡ limits.max
+  pub table : IsTableByMethod p heads unit of_item.table
+
+abbrev pub IsComTable : ProblemParts → List (List ℕ) → ℕ → Option Com → Option ItemTable → Type 0
+IsComTable p heads unit None None = Unit {0}
+IsComTable p heads unit None (Some of_item) = ⊥
+IsComTable p heads unit (Some limits) None = ⊥
+IsComTable p heads unit (Some limits) (Some of_item) = IsLimitTable p heads unit limits of_item
+
+-- the unit of length, the number of parts of a touch, the number of places and of methods, and the tables
 pub record OutlookParts : Type 0 where
   pub unit : ℕ
   pub parts : ℕ
   pub places : ℕ
+  pub methods : ℕ
   pub home : Option AheadParts
   pub items : List ItemTable
+  pub changing : Option ItemTable
 
 -- the outlook of a problem from some lead heads
 pub record IsOutlook (p : ProblemParts) (heads : List (List ℕ)) (outlook : OutlookParts) : Type 0 where
   pub sound : IsSound p
   pub parts : outlook.parts ≡ parts_of p
   pub places : outlook.places ≡ length heads
+  pub methods : outlook.methods ≡ length p.letters
   pub unit : IsUnit p outlook.unit
   pub home : IsHomeTable p heads outlook.unit outlook.home
-  pub items : AreItemTables p heads outlook.unit (exact_items p) outlook.items
+  pub items : AreItemTables p heads outlook.unit (head_items p) outlook.items
+  pub changing : IsComTable p heads outlook.unit (exact_com p) outlook.changing
 
 -- what every outlook keeps
-pub record IsKept (unit parts places : ℕ) (home : Option AheadParts) (items : List ItemTable) : Type 0 where
+pub record IsKept (unit parts places methods : ℕ) (home : Option AheadParts) (items : List ItemTable) (changing : Option ItemTable) : Type 0 where
   pub some : 1 ≤ unit
   pub few : parts ≤ 64
+  pub few_methods : methods ≤ 8
   pub at_home : IfSome home (λ table. table.places ≡ places)
   pub all : All (λ of_item. of_item.table.places ≡ places) items
+  pub by_method : IfSome changing (λ of_item. (of_item.table.places ≡ places * (methods + 1)) × (of_item.table.places ≤ 4294967296))
 
 -- an item is refused: a touch that has so much of it so far, and still what its table answers, cannot meet its limits
 abbrev pub is_refused : ℕ → ℕ → ℕ → ItemTable → ℕ → Bool

@@ -9,7 +9,7 @@ ghost use Rattle.cr_model.specs.Sound.{IsSound};
 ghost use Rattle.cr_ahead.specs.Moves.{places_of, steps_of};
 ghost use Rattle.cr_ahead.specs.Tables.{IsAhead};
 ghost use Rattle.cr_ahead.specs.Items.{Item, count_item, method_item, pattern_item};
-ghost use Rattle.cr_ahead.specs.Exact.{exact_items, exact_patterns};
+ghost use Rattle.cr_ahead.specs.Exact.{head_items, exact_patterns};
 ghost use Rattle.cr_ahead.specs.Units.{IsRange};
 ghost use Rattle.cr_ahead.specs.Outlooks.{AreGround, GainItem, IsTableOf, IsItemTable, AreItemTables, IsHomeTable};
 
@@ -23,9 +23,9 @@ use cr_model::{Count, MethodCount, Pattern, Problem, Query};
 use cr_row::{NoMemory, Row};
 use std::alloc::Global;
 
-/// How many items there are tables of.
+/// How many items there are of which the lead head tells all.
 pub fn table_count(problem: &Problem) -> u64
-    ensures is { result ≡ length (exact_items problem.now) }
+    ensures is { result ≡ length (head_items problem.now) }
     ensures few { result ≤ 64 }
 {
     let query = problem.query();
@@ -33,7 +33,7 @@ pub fn table_count(problem: &Problem) -> u64
     (counts + patterns_of(problem).len()) as u64
 }
 
-/// The table that tells whether there is a way home, where there are no items. Err where no memory is left.
+/// The table that tells whether there is a way home, where there are no such items. Err where no memory is left.
 pub fn home_table(
     alloc: Global,
     problem: &Problem,
@@ -52,7 +52,7 @@ pub fn home_table(
     Ok(Some(table))
 }
 
-/// The tables of all items. Err where no memory is left.
+/// The tables of all items of which the lead head tells all. Err where no memory is left.
 pub fn item_tables(
     alloc: Global,
     problem: &Problem,
@@ -61,7 +61,7 @@ pub fn item_tables(
     moves: &mut Moves,
 ) -> Result<Vec<ItemTable>, NoMemory>
     requires ground { AreGround problem.now heads.now range moves.old }
-    ensures { IfOk result (λ tables. AreItemTables problem.now heads.now range.unit (exact_items problem.now) tables.items) }
+    ensures { IfOk result (λ tables. AreItemTables problem.now heads.now range.unit (head_items problem.now) tables.items) }
 {
     let mut tables = Vec::with_capacity(alloc, table_count(problem) as usize)?;
     add_counts(alloc, problem, heads, range, moves, &mut tables)?;
@@ -211,8 +211,8 @@ fn pattern_table(
     })
 }
 
-// The table of the moves with other gains.
-fn table_by(
+/// The table of the moves with other gains. Err where no memory is left.
+pub fn table_by(
     alloc: Global,
     range: Range,
     moves: &mut Moves,

@@ -22,6 +22,7 @@ pub fn moves_of(
     requires leads { AreLeadHeads problem.now heads.now next.now }
     requires range { IsRange problem.now range.unit range.least range.greatest }
     ensures ground { IfOk result (λ moves. AreGround problem.now heads.now range moves) }
+    ensures next { IfOk result (λ moves. moves.next ≡ next.now) }
     ensures gains { IfOk result (λ moves. moves.gains ≡ replicate (length heads.now * length problem.now.leads) 0) }
 {
     let _ = problem.stage();

@@ -11,9 +11,12 @@
 //!   ([`Gains`]), or that there is none. It takes constant time and no memory.
 //!
 //! - [`Outlook::new`]: the tables of a problem, from its lead heads: one for each count, and in one part one for each
-//!   pattern. Lengths are in units of so many changes as each lead has a multiple of.
+//!   pattern, and one for the limit on changes of method. Lengths are in units of so many changes as each lead has a
+//!   multiple of.
 //! - [`Outlook::cannot_come`]: whether a node has no way home, or none that meets the min, or none that meets the max, of
 //!   one of these items. It takes no memory.
+//! - [`changes_of_method`], [`last_method`] and [`change_after`]: what it asks of a node's methods, lead by lead.
+//! - [`Outlook::cannot_come_by_heads`] and [`Outlook::cannot_change`]: the same by all but changes of method, and by these alone.
 //!
 //! The functions of [`laws`] do nothing: the contract of each is what is proved of ways, and of the ways home of a
 //! problem, on which a node of a search that cannot come to what is asked has no kept touch below it.
@@ -32,6 +35,8 @@
 #![tactic(auto)]
 
 mod ahead;
+mod by_method;
+mod changed;
 mod ends;
 mod gains;
 mod item_gains;
@@ -46,6 +51,7 @@ mod rows;
 mod units;
 
 pub use ahead::Ahead;
+pub use changed::{change_after, changes_of_method, last_method};
 pub use gains::Gains;
 pub use moves::Moves;
 pub use outlook::Outlook;

@@ -1,8 +1,8 @@
 //! The steps of a problem, by their numbers.
 
-ghost use Rattle.std.specs.Prelude.{◌≡◌, ◌<◌, ◌≤◌, length};
-ghost use Rattle.cr_model.specs.Callings.{step_at, changes_at, lead_length, letter_of, mark_of};
-ghost use Rattle.cr_ahead.specs.LeadMoves.{marked_gain, lettered_gain};
+ghost use Rattle.std.specs.Prelude.{◌≡◌, ◌<◌, ◌≤◌, length, cond, nat_eq};
+ghost use Rattle.cr_model.specs.Callings.{step_at, changes_at, lead_length, method_of, letter_of, mark_of};
+ghost use Rattle.cr_ahead.specs.LeadMoves.{marked_gain, lettered_gain, changing_gain};
 
 use cr_model::{Lead, Problem, Step};
 
@@ -44,6 +44,44 @@ pub fn lettered_gain(problem: &Problem, letter: u8, step: u8) -> u16
     }
 }
 
+/// What a step adds to the changes of method behind a lead of the last method, if there is one.
+pub fn changing_gain(problem: &Problem, last: Option<u8>, step: u8) -> u16
+    requires { step < length problem.now.leads }
+    ensures is { result ≡ changing_gain problem.now last step }
+    ensures few { result ≤ 1 }
+{
+    match last {
+        Some(method) => differs(method, method_of(problem, step)),
+        None => 0,
+    }
+}
+
+// One where two methods differ, and else none.
+fn differs(one: u8, other: u8) -> u16
+    ensures is { result ≡ cond (nat_eq one other) 0 1 }
+    ensures few { result ≤ 1 }
+{
+    if one == other { 0 } else { 1 }
+}
+
+/// The number of methods.
+pub fn method_count(problem: &Problem) -> u8
+    ensures is { result ≡ length problem.now.letters }
+    ensures few { result ≤ 8 }
+{
+    problem.letters().len() as u8
+}
+
+/// The method of a step.
+pub fn method_of(problem: &Problem, step: u8) -> u8
+    requires { step < length problem.now.leads }
+    ensures is { result ≡ method_of problem.now step }
+    ensures known { result < length problem.now.letters }
+{
+    let Step { method, mark: _ } = step_at(problem.leads(), usize::from(step));
+    method
+}
+
 // The mark of a step.
 fn mark_of(problem: &Problem, step: u8) -> u8
     requires { step < length problem.now.leads }
@@ -57,8 +95,7 @@ fn letter_of(problem: &Problem, step: u8) -> u8
     requires { step < length problem.now.leads }
     ensures { result ≡ letter_of problem.now step }
 {
-    let Step { method, mark: _ } = step_at(problem.leads(), usize::from(step));
-    problem.letters()[usize::from(method)]
+    problem.letters()[usize::from(method_of(problem, step))]
 }
 
 // The step of the lead at an index.

@@ -1,3 +1,4 @@
+mod changing;
 mod lead_heads;
 mod outlooks;
 

@@ -38,6 +38,3 @@ pub use fault::AuditFault;
 pub use line::LogLine;
 pub use verdict::{Item, Verdict};
 pub use writing::log_text;
-
-#[cfg(test)]
-mod tests;

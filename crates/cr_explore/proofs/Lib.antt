@@ -13,3 +13,4 @@ pub mod OneTest
 pub mod LookingAhead
 pub mod KeptTouches
 pub mod TouchParts
+pub mod InSlices

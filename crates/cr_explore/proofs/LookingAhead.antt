@@ -10,7 +10,7 @@ use Rattle.cr_model.specs.Queries.{leads_marked, leads_lettered, rows_fitting}
 use Rattle.cr_model.specs.Dead.{parts_of}
 use Rattle.cr_query.specs.Meters.{item_numbers}
 use Rattle.cr_path.specs.Numbers.{AreNextHeads}
-use Rattle.cr_ahead.specs.Exact.{exact_items}
+use Rattle.cr_ahead.specs.Exact.{head_items}
 use Rattle.cr_ahead.specs.Items.{Item, count_item, method_item, pattern_item}
 use Rattle.cr_ahead.specs.Outlooks.{AreLeadHeads, OutlookParts, IsItemTable, IsOutlook}
 use Rattle.cr_ahead.proofs.HeadMoves.{head_times}
@@ -33,7 +33,7 @@ are_lead_heads rung neutral p heads next few are = record {
 module _ (p : ProblemParts) (node : List ℕ) where
   -- what the node has of each exact item
   abbrev pub exact_numbers : List ℕ
-  exact_numbers = map (λ item. item.number_of node) (exact_items p)
+  exact_numbers = map (λ item. item.number_of node) (head_items p)
 
   -- the exact items are the first ones
   items_on : (patterns : List PatternParts)
@@ -60,17 +60,17 @@ module _ (p : ProblemParts) (node : List ℕ) where
           (rows, sym (ap (λ front. front ++ rows) (items_on [] ∙ ap (λ more. counts ++ more) (append-nil methods)) ∙ append_assoc counts methods rows))
 
   -- so they are no more, and what the node has of them stands in front
-  pub few_items : length (exact_items p) ≤ length (item_numbers p node)
+  pub few_items : length (head_items p) ≤ length (item_numbers p node)
   few_items =
       let (rest, is) = items_begin in
       let whole : length (item_numbers p node) ≡ length (exact_numbers ++ rest) = ap length is in
-      omega (arith, whole, length-append exact_numbers rest, length-map (exact_items p) (λ (item : Item). item.number_of node))
+      omega (arith, whole, length-append exact_numbers rest, length-map (head_items p) (λ (item : Item). item.number_of node))
 
-  pub front_of_items : take (length (exact_items p)) (item_numbers p node) ≡ exact_numbers
+  pub front_of_items : take (length (head_items p)) (item_numbers p node) ≡ exact_numbers
   front_of_items =
       let (rest, is) = items_begin in
-      ap (take (length (exact_items p))) is ∙ take_at exact_numbers rest (length (exact_items p)) (length-map (exact_items p) (λ (item : Item). item.number_of node))
+      ap (take (length (head_items p))) is ∙ take_at exact_numbers rest (length (head_items p)) (length-map (head_items p) (λ (item : Item). item.number_of node))
 
 -- an outlook has a table for each exact item
-pub items_of_outlook : (p : ProblemParts) (heads : List (List ℕ)) (outlook : OutlookParts) → IsOutlook p heads outlook → length outlook.items ≡ length (exact_items p)
-items_of_outlook p heads outlook is = zip_length (IsItemTable p heads outlook.unit) (exact_items p) outlook.items is.items
+pub items_of_outlook : (p : ProblemParts) (heads : List (List ℕ)) (outlook : OutlookParts) → IsOutlook p heads outlook → length outlook.items ≡ length (head_items p)
+items_of_outlook p heads outlook is = zip_length (IsItemTable p heads outlook.unit) (head_items p) outlook.items is.items

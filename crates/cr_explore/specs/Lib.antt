@@ -3,3 +3,4 @@ pub mod Stacks
 pub mod Passing
 pub mod Keeping
 pub mod Searches
+pub mod Slices

@@ -11,6 +11,7 @@ use cr_false::{Built, FalseTable};
 use cr_leads::LeadTable;
 use cr_model::Problem;
 use cr_node::{Done, Explorer, Node};
+use cr_path::Room;
 use cr_row::NoMemory;
 use std::alloc::Global;
 use std::thread::Threads;
@@ -52,13 +53,12 @@ impl Search {
         self.tables().numbers.is_none()
     }
 
-    /// The same search with numbers, for one that turns out to be long: it takes up to some 600 MB and seconds to make,
-    /// and goes ten times as fast from then on. None where this one goes by numbers already, or they have no room, or no
-    /// memory is left.
-    pub fn with_more_room(&self, alloc: Global) -> Option<Search>
+    /// The same search with numbers that have so much room, for one that turns out to be long: it goes ten times as fast
+    /// from then on. None where this one goes by numbers already, or they have no room, or no memory is left.
+    pub fn with_more_room(&self, alloc: Global, room: Room) -> Option<Search>
         ensures { IfSome result (λ search. searched search ≡ searched self.now) }
     {
-        match self.tables().with_more_room(alloc) {
+        match self.tables().with_more_room(alloc, room) {
             Ok(Some(tables)) => Some(Search::Rows(RowSearch { tables })),
             Ok(None) | Err(NoMemory) => None,
         }

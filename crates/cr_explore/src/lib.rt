@@ -6,7 +6,8 @@
 //! of a problem find and leave the same.
 //!
 //! - [`make_search`]: the search of a problem, which is an `Explorer`. It makes the tables, and takes their memory.
-//!   [`Search::with_more_room`]: the same search with larger tables, for one that rings and is long.
+//!   [`Search::with_more_room`]: the same search with larger tables, for one that rings and is long ([`LONG_ROOM`]) or longer
+//!   still ([`LONGEST_ROOM`]).
 //! - [`RowSearch`], [`TableSearch`]: a search without a falseness table, and one with it. A [`Search`] is either.
 //! - [`take_turns`]: the loop of turns over any path, and what it found and left ([`Explored`]).
 //! - [`find_all`]: the same loop for who counts no turns: it passes by the nodes below which a path knows that nothing is
@@ -14,6 +15,7 @@
 //!   [`Search::looking_ahead`]: the search ([`NarrowSearch`]) that does so.
 //! - [`NumberPath`], [`WalkPath`]: the paths. [`NarrowPath`]: one by numbers that knows what can still come.
 //! - [`first_unkept`]: the first of some touches that is not kept, told at the speed of the search.
+//!   [`first_unkept_by`]: the same by several threads.
 //!
 //! ```rust
 //! // `problem` is Plain Bob Minimus, whose tree has four nodes.
@@ -29,8 +31,10 @@
 #![tactic(auto)]
 
 mod all_touches;
+mod changing_path;
 mod choice;
 mod coming_round;
+mod in_threads;
 mod keeping;
 pub mod laws;
 mod narrow;
@@ -39,6 +43,7 @@ mod number_path;
 mod path;
 mod row_search;
 mod search;
+mod slices;
 mod standing;
 mod table_search;
 mod tables;
@@ -50,6 +55,8 @@ mod widths;
 
 pub use all_touches::find_all;
 pub use choice::{Search, make_search};
+pub use cr_path::Room;
+pub use in_threads::first_unkept_by;
 pub use narrow::NarrowSearch;
 pub use narrow_path::NarrowPath;
 pub use number_path::NumberPath;
@@ -57,5 +64,6 @@ pub use path::Path;
 pub use row_search::RowSearch;
 pub use search::{Explored, take_turns};
 pub use table_search::TableSearch;
+pub use tables::{LONG_ROOM, LONGEST_ROOM};
 pub use unkept::first_unkept;
 pub use walk_path::WalkPath;

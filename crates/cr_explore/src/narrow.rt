@@ -11,6 +11,7 @@ ghost use Rattle.cr_path.specs.Numbers.{IsNumbered};
 ghost use Rattle.cr_reach.specs.Tables.{reach_table};
 
 use crate::all_touches::find_all;
+use crate::changing_path::ChangingPath;
 use crate::narrow_path::NarrowPath;
 use crate::path::Path;
 use crate::search::Explored;
@@ -166,6 +167,9 @@ fn find_by_numbers<const WIDTH: usize>(
     ensures few { IfOk result (λ done. done.used ≤ turns) }
     ensures ends { IfOk result (λ done. (done.rest.items ≡ []) ⊎ (done.used ≡ turns)) }
 {
+    if outlook.has_com() {
+        return find_changing::<WIDTH>(alloc, problem, leads, numbers, outlook, job, turns);
+    }
     by_steps!(
         is_counted(problem),
         leads.count(),
@@ -201,6 +205,32 @@ fn find_on_path<const WIDTH: usize, const COUNTS: usize, const STEPS: usize>(
     let path: NarrowPath<WIDTH, COUNTS, STEPS> = NarrowPath::new(
         alloc, problem, leads, numbers, outlook,
     )?;
+    find_all(alloc, path, job, turns)
+}
+
+// The same, where changes of method are looked at.
+fn find_changing<const WIDTH: usize>(
+    alloc: Global,
+    problem: &Problem,
+    leads: &LeadTable,
+    numbers: &NumberTable,
+    outlook: &Outlook,
+    job: &[Node],
+    turns: u64,
+) -> Result<Explored, NoMemory>
+    requires leads { leads.now ≡ lead_table problem.now }
+    requires numbers { IsNumbered problem.now numbers.now }
+    requires width { numbers.now.width ≡ WIDTH }
+    requires outlook { IsOutlook problem.now numbers.now.heads outlook.now }
+    requires job { IsJob problem.now job.now }
+    ensures splits { IfOk result (λ done. Splits problem.now job.now done.found.items done.rest.items) }
+    ensures smaller { IfOk result (λ done. size_of_all problem.now most_rows done.rest.items + done.used
+        ≤ size_of_all problem.now most_rows job.now) }
+    ensures few { IfOk result (λ done. done.used ≤ turns) }
+    ensures ends { IfOk result (λ done. (done.rest.items ≡ []) ⊎ (done.used ≡ turns)) }
+{
+    let _ = problem.stage();
+    let path: ChangingPath<WIDTH> = ChangingPath::new(alloc, problem, leads, numbers, outlook)?;
     find_all(alloc, path, job, turns)
 }
 
@@ -243,7 +273,7 @@ fn passed_by_numbers<const WIDTH: usize>(
     requires job { IsJob problem.now job.now }
 {
     let _ = problem.stage();
-    let path: Result<NarrowPath<WIDTH, 1, 0>, NoMemory> = NarrowPath::new(
+    let path: Result<ChangingPath<WIDTH>, NoMemory> = ChangingPath::new(
         alloc, problem, leads, numbers, outlook,
     );
     match path {

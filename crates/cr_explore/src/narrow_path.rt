@@ -3,15 +3,21 @@
 ghost use Rattle.std.specs.Prelude.{◌≡◌, ◌<◌, ◌≤◌, true, [], length, take, IfOk};
 ghost use Rattle.cr_ahead.specs.Outlooks.{IsOutlook};
 ghost use Rattle.cr_leads.specs.Tables.{lead_table};
+ghost use Rattle.cr_model.specs.Callings.{HasSteps};
 ghost use Rattle.cr_model.specs.Dead.{HasNoneBelow};
+ghost use Rattle.cr_model.specs.Limits.{most_leads};
+ghost use Rattle.cr_model.specs.Queries.{changes_of_method};
 ghost use Rattle.cr_path.specs.Counted.{AsksNothing};
 ghost use Rattle.cr_path.specs.Numbers.{IsNumbered};
 ghost use Rattle.cr_query.specs.Meters.{item_numbers};
 
 use crate::number_path::NumberPath;
 use crate::path::Path;
-use cr_ahead::Outlook;
-use cr_ahead::laws::exact::nothing_is_kept_below_a_node_that_cannot_come_by_exact_items;
+use cr_ahead::laws::exact::{
+    heads_tell_what_changes_of_method_do_not,
+    nothing_is_kept_below_a_node_that_cannot_come_by_exact_items,
+};
+use cr_ahead::{Outlook, last_method};
 use cr_leads::LeadTable;
 use cr_model::Problem;
 use cr_path::{NumberTable, NumberWalk};
@@ -20,7 +26,7 @@ use std::alloc::Global;
 use std::marker::Model;
 
 /// A [`NumberPath`] that asks an outlook whether its node can still come to what the query asks: below one that cannot
-/// nothing is kept.
+/// nothing is kept. It does not ask of changes of method.
 ///
 /// It is seen as the problem, the node and the step from which on the node's children are not tried yet.
 #[derive(Drop)]
@@ -75,6 +81,32 @@ impl<'a, const WIDTH: usize, const COUNTS: usize, const STEPS: usize> NarrowPath
             outlook,
             so_far,
         })
+    }
+
+    /// The steps of the node.
+    #[inline(always)]
+    pub(crate) fn steps(&self) -> &[u8]
+        ensures is { result.now ≡ self.now.node }
+        ensures few { length self.now.node ≤ most_leads }
+        ensures known { HasSteps self.now.problem self.now.node }
+    {
+        self.path.walk().steps()
+    }
+
+    /// Whether it is known that no kept touch is below the node, which changes method so often, since none there meets the
+    /// limit on that.
+    #[inline(always)]
+    pub(crate) fn cannot_change(&self, changed: u32) -> bool
+        requires { changed ≡ changes_of_method self.now.problem self.now.node }
+        ensures { result ≡ true → HasNoneBelow self.now.problem self.now.node }
+    {
+        cannot_change(
+            self.outlook,
+            self.numbers,
+            self.path.problem(),
+            self.path.walk(),
+            changed,
+        )
     }
 }
 
@@ -141,8 +173,8 @@ impl<'a, const WIDTH: usize, const COUNTS: usize, const STEPS: usize> Path
     }
 }
 
-// Whether an outlook from the heads of a table of numbers tells that a walk's node cannot come to what is asked. What the
-// node has of each item is written into the room for it.
+// Whether an outlook from the heads of a table of numbers tells that a walk's node cannot come to what is asked, changes of
+// method left aside. What the node has of each item is written into the room for it.
 #[inline(always)]
 fn cannot_come<const WIDTH: usize, const COUNTS: usize, const STEPS: usize>(
     outlook: &Outlook,
@@ -156,11 +188,35 @@ fn cannot_come<const WIDTH: usize, const COUNTS: usize, const STEPS: usize>(
     ensures none { result ≡ true → HasNoneBelow walk.now.problem walk.now.node }
 {
     nothing_is_kept_below_a_node_that_cannot_come_by_exact_items();
+    heads_tell_what_changes_of_method_do_not();
     let Some(place) = walk.head_number(numbers) else {
         return false;
     };
     take_items(walk, so_far);
-    outlook.cannot_come(place, walk.length() as u32, so_far)
+    outlook.cannot_come_by_heads(place, walk.length() as u32, so_far)
+}
+
+// The same of changes of method, which are so many of the node.
+#[inline(always)]
+fn cannot_change<const WIDTH: usize, const COUNTS: usize, const STEPS: usize>(
+    outlook: &Outlook,
+    numbers: &NumberTable,
+    problem: &Problem,
+    walk: &NumberWalk<WIDTH, COUNTS, STEPS>,
+    changed: u32,
+) -> bool
+    requires outlook { IsOutlook walk.now.problem numbers.now.heads outlook.now }
+    requires problem { problem.now ≡ walk.now.problem }
+    requires changed { changed ≡ changes_of_method walk.now.problem walk.now.node }
+    ensures { result ≡ true → HasNoneBelow walk.now.problem walk.now.node }
+{
+    nothing_is_kept_below_a_node_that_cannot_come_by_exact_items();
+    heads_tell_what_changes_of_method_do_not();
+    let Some(place) = walk.head_number(numbers) else {
+        return false;
+    };
+    let last = last_method(problem, walk.steps());
+    outlook.cannot_change(place, walk.length() as u32, last, changed)
 }
 
 // Writes what a walk's node has of the first items, as many as there is room for.

@@ -40,8 +40,15 @@ const FIRST_ROOM: Room = Room {
     rows: 1 << 20,
 };
 
-// For a search that is long: seconds. All heads of ten bells have room in it.
-const LONG_ROOM: Room = Room {
+/// For a search that is long: what is made in this room takes about a second. All heads of ten bells have room in it.
+pub const LONG_ROOM: Room = Room {
+    bytes: 512_000_000,
+    heads: 1 << 19,
+    rows: 1 << 22,
+};
+
+/// For one that is longer still: up to some ten seconds. The heads of Grandsire Cinques have room in it.
+pub const LONGEST_ROOM: Room = Room {
     bytes: 512_000_000,
     heads: 1 << 23,
     rows: 1 << 22,
@@ -111,16 +118,16 @@ impl Tables {
         })
     }
 
-    /// The same tables with numbers for a long search: where these have none, and have room for them in 512 MB. Else None.
-    /// Err where no memory is left.
-    pub fn with_more_room(&self, alloc: Global) -> Result<Option<Tables>, NoMemory>
+    /// The same tables with numbers, where these have none and they have so much room. Else None. Err where no memory is
+    /// left.
+    pub fn with_more_room(&self, alloc: Global, room: Room) -> Result<Option<Tables>, NoMemory>
         ensures { IfOk result (λ more. IfSome more (λ tables. tables ≡ self.now)) }
     {
         if self.numbers.is_some() {
             return Ok(None);
         }
         let leads = LeadTable::new(alloc, &self.problem)?;
-        let tables = Tables::with_room(alloc, &self.problem, leads, LONG_ROOM)?;
+        let tables = Tables::with_room(alloc, &self.problem, leads, room)?;
         if tables.numbers.is_none() {
             return Ok(None);
         }

@@ -22,8 +22,8 @@ use cr_query::has_parts;
 use cr_row::NoMemory;
 use std::alloc::Global;
 
-// From how many touches on it takes less time to make the numbers than to ring.
-const MANY: usize = 4_000;
+/// From how many touches on it takes less time to make the numbers than to ring.
+pub const MANY: usize = 4_000;
 
 /// The first of some touches that is not kept, or none. Err where no memory is left.
 ///

@@ -5,7 +5,7 @@ ghost use Rattle.cr_model.specs.Sizes.{most_rows};
 ghost use Rattle.cr_model.specs.Sound.{IsSound};
 ghost use Rattle.cr_reach.specs.Tables.{reach_table};
 
-use cr_explore::{RowSearch, Search, WalkPath, make_search, take_turns};
+use cr_explore::{LONG_ROOM, RowSearch, Search, WalkPath, make_search, take_turns};
 use cr_false::{Built, FalseTable};
 use cr_leads::LeadTable;
 use cr_model::Cell::Bell;
@@ -350,7 +350,7 @@ fn told_by_longer(
     if !search.rings() {
         return Ok(None);
     }
-    match search.with_more_room(alloc) {
+    match search.with_more_room(alloc, LONG_ROOM) {
         Some(longer) => Ok(Some(told_by(alloc, draft, longer, turns)?)),
         None => Err(Fail::from("a search that rings gets more room")),
     }

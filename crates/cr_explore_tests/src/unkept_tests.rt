@@ -1,14 +1,15 @@
-//! Tests of which touch is the first that is not kept, by a walk that rings and by numbers.
+//! Tests of which touch is the first that is not kept, by a walk that rings and by numbers, by one thread and by several.
 
 ghost use Rattle.std.specs.Prelude.{All, IfOk};
 ghost use Rattle.cr_model.specs.Callings.{HasSteps};
 
-use cr_explore::first_unkept;
+use cr_explore::{first_unkept, first_unkept_by};
 use cr_model::Cell::Bell;
 use cr_model::{Calling, Count, Problem};
 use cr_samples::{DOUBLES, Draft, MINIMUS_WITH_SINGLES, SPLICED, problem_of};
 use std::alloc::Global;
 use std::test::*;
+use std::thread::Threads;
 
 const LONG: Draft = Draft {
     length: (50, 120),
@@ -170,6 +171,76 @@ fn the_first_touch_that_is_not_kept(rt: HostRuntime) -> Result<(), Fail> {
         for number in [0, 1, MANY] {
             check(rt.alloc(), *case, number)?;
         }
+    }
+    Ok(())
+}
+
+// How many touches there are, the places of those that are not kept, and the first of these places.
+type Faults = (usize, &'static [usize], Option<usize>);
+
+// Four threads look at 1,001 touches each, but for the last, which looks at the rest.
+const FAULTS: &[Faults] = &[
+    (4_001, &[], None),
+    (4_001, &[0], Some(0)),
+    (4_001, &[1_000], Some(1_000)),
+    (4_001, &[1_001], Some(1_001)),
+    (4_001, &[2_500], Some(2_500)),
+    (4_001, &[4_000], Some(4_000)),
+    (4_001, &[700, 3_500], Some(700)),
+    (4_001, &[3_002, 3_003], Some(3_002)),
+    (3, &[1, 2], Some(1)),
+    (1, &[], None),
+    (0, &[], None),
+];
+
+// So many touches, of which those at some places are not kept.
+fn with_faults(
+    alloc: Global,
+    problem: &Problem,
+    number: usize,
+    places: &[usize],
+) -> Result<Vec<Calling>, Fail>
+    ensures { IfOk result (λ touches. All (HasSteps problem.now) touches.items) }
+{
+    let mut touches = Vec::new(alloc);
+    for touch in 0..number {
+        let steps = steps_at(places, touch);
+        add(alloc, problem, &mut touches, steps)?;
+    }
+    Ok(touches)
+}
+
+// The steps of a touch that comes round, or at one of the places of one that does not.
+fn steps_at(places: &[usize], touch: usize) -> &'static [u8] {
+    if places.contains(&touch) {
+        &[0, 1, 0, 1, 0]
+    } else {
+        &[0, 1, 0, 1, 0, 1]
+    }
+}
+
+// Ok where one thread and four tell the same first place.
+fn check_threads(
+    rt: &(impl AllocGlobal + Threads + Sync),
+    problem: &Problem,
+    faults: Faults,
+) -> Result<(), Fail> {
+    let (number, places, first) = faults;
+    let touches = with_faults(rt.alloc(), problem, number, places)?;
+    for threads in [1, 4] {
+        let told = first_unkept_by(rt, rt.alloc(), problem, &touches, threads)?;
+        if told != first {
+            return Err(Fail::from("another touch is told"));
+        }
+    }
+    Ok(())
+}
+
+#[test]
+fn several_threads_tell_the_same_first_touch(rt: HostRuntime) -> Result<(), Fail> {
+    let problem = problem_of(rt.alloc(), &LONG)?;
+    for faults in FAULTS {
+        check_threads(&rt, &problem, *faults)?;
     }
     Ok(())
 }

@@ -53,7 +53,7 @@ impl<'a> Held<'a> {
                 Ok(Held::Heads(heads))
             }
             None => {
-                let stack = RowStack::with_room(alloc, room_of(problem))?;
+                let stack = RowStack::with_many_buckets(alloc, room_of(problem))?;
                 Ok(Held::Rows(stack))
             }
         }

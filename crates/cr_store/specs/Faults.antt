@@ -16,6 +16,7 @@ use Rattle.cr_store.specs.declared.fault.CheckFault.TheVariants as fault
 use Rattle.cr_store.specs.Shapes.{ShapeParts, HasShape}
 use Rattle.cr_store.specs.ShapeFaults.{IsFormFault}
 use Rattle.cr_store.specs.Lines.{OutlineParts, outline_of, node_lines_of, line_at, line_of, HasItems, CanBeRead}
+use Rattle.cr_store.specs.Reading.{AreOutlined}
 
 -- a node is no longer than a part may be
 abbrev pub IsShortNode : ProblemParts → List (List ℕ) → ℕ → Type 0
@@ -62,6 +63,14 @@ pub record HasProblem (bytes : List ℕ) (shape : ShapeParts) (p : ProblemParts)
 pub record HasLines (bytes : List ℕ) (shape : ShapeParts) (p : ProblemParts) (found nodes : List (List ℕ)) : Type 0 where
   pub problem : HasProblem bytes shape p
   pub items : HasItems p shape found nodes
+
+-- and this is the problem's file, and what stays of the lines
+pub record AreRead (bytes file : List ℕ) (p : ProblemParts) (outline : OutlineParts) (found nodes : List (List ℕ)) : Type 0 where
+  pub shape : ShapeParts
+  pub lines : HasLines bytes shape p found nodes
+  pub file_is : file ≡ shape.problem
+  pub outline_is : outline ≡ outline_of shape
+  pub outlined : AreOutlined p outline found nodes
 
 -- the problem's bytes are no problem file
 pub record IsProblemWrong (bytes : List ℕ) (why : ProblemFault) : Type 0 where

@@ -1,13 +1,15 @@
 //! Checkpoints read whole.
 
-ghost use Rattle.std.specs.Prelude.{◌≡◌, ◌≢◌, ◌⊎◌, ◌≤◌, length, take, drop, Ok, Err, IfOk, IfErr, MatchResult};
+ghost use Rattle.std.specs.Prelude.{◌≡◌, ◌≢◌, ◌⊎◌, ◌≤◌, ℕ, List, length, take, drop, Ok, Err, IfOk, IfErr, MatchResult};
 ghost use Rattle.cr_model.specs.Checkpoints.{CheckFile};
+ghost use Rattle.cr_model.specs.Checks.{TellsFirst};
 ghost use Rattle.cr_model.specs.ProblemFiles.{ProblemFile};
 ghost use Rattle.cr_store.specs.declared.fault.CheckFault.{CheckFault};
 ghost use Rattle.cr_store.specs.declared.fault.CheckFault.TheVariants as fault;
 ghost use Rattle.cr_store.specs.Lines.{in_all};
 ghost use Rattle.cr_store.specs.Progress.{Progress, AreJobs, IsMadeOf};
-ghost use Rattle.cr_store.specs.Faults.{FirstCheckFault, OrNoMemory, IsProblemFaultOf};
+ghost use Rattle.cr_store.specs.Reading.{AreOutlined, outline_parts};
+ghost use Rattle.cr_store.specs.Faults.{FirstCheckFault, OrNoMemory, AreRead, IsKeptAt, IsProblemFaultOf};
 ghost use Rattle.cr_store.specs.Written.{lists};
 
 use crate::fault::CheckFault;
@@ -15,6 +17,7 @@ use crate::items::{Items, check_items, read_items};
 use crate::laws::bytes_have_one_answer;
 use crate::outline::Outline;
 use crate::shape::read_shape;
+use cr_explore::{first_unkept, first_unkept_by};
 use cr_model::{Calling, Problem, ProblemFault};
 use cr_node::Node;
 use cr_read::read_problem;
@@ -22,6 +25,7 @@ use cr_row::NoMemory;
 use std::alloc::Global;
 use std::marker::Model;
 use std::mem;
+use std::thread::Threads;
 
 /// What a checkpoint holds: the bytes of the problem's file and the problem that they are, the found touches, in the
 /// book's order, and the jobs that are left, each a list of nodes that is not empty.
@@ -46,6 +50,16 @@ impl Model for Checkpoint {
     ghost view = { λ c. record { bytes = c.problem_bytes.items; problem = c.problem; found = c.found.items; jobs = lists c.jobs.items } };
 }
 
+// What the lines of a checkpoint say: the bytes of the problem's file, the problem, how many lines there are, and found
+// touches and nodes.
+#[derive(Drop)]
+struct Lines {
+    problem_bytes: Vec<u8>,
+    problem: Problem,
+    outline: Outline,
+    items: Items,
+}
+
 /// The checkpoint that the bytes are, in version 1 or 2.
 ///
 /// The bytes are accepted exactly where they are a checkpoint, with its one problem, found touches and jobs. Each fault
@@ -66,19 +80,77 @@ pub fn read_checkpoint(alloc: Global, bytes: &[u8]) -> Result<Checkpoint, CheckF
     read_whole(alloc, bytes)
 }
 
+/// The same as [`read_checkpoint`]: found touches, where they are many, are looked at by so many threads.
+pub fn read_checkpoint_by<R: Threads + Sync>(
+    rt: &R,
+    alloc: Global,
+    bytes: &[u8],
+    threads: usize,
+) -> Result<Checkpoint, CheckFault>
+    ensures checkpoint { IfOk result (λ c. CheckFile bytes.now c.bytes c.problem c.found c.jobs) }
+    ensures fault { IfErr result (λ why. why ≢ fault.NoMemory → FirstCheckFault bytes.now why) }
+    ensures accepts { (c : Progress) → CheckFile bytes.now c.bytes c.problem c.found c.jobs
+        → (result ≡ Ok c) ⊎ (result ≡ Err fault.NoMemory) }
+    ensures refuses { (why : CheckFault) → FirstCheckFault bytes.now why
+        → (result ≡ Err why) ⊎ (result ≡ Err fault.NoMemory) }
+{
+    bytes_have_one_answer();
+    read_whole_by(rt, alloc, bytes, threads)
+}
+
 // The same, without a word on other answers.
 fn read_whole(alloc: Global, bytes: &[u8]) -> Result<Checkpoint, CheckFault>
     ensures { MatchResult result (λ c. CheckFile bytes.now c.bytes c.problem c.found c.jobs) (OrNoMemory (FirstCheckFault bytes.now)) }
+{
+    let lines = read_lines(alloc, bytes)?;
+    let unkept = first_unkept(alloc, &lines.problem, &lines.items.found)?;
+    checked(alloc, lines, unkept)
+}
+
+// The same, where so many threads look at found touches.
+fn read_whole_by<R: Threads + Sync>(
+    rt: &R,
+    alloc: Global,
+    bytes: &[u8],
+    threads: usize,
+) -> Result<Checkpoint, CheckFault>
+    ensures { MatchResult result (λ c. CheckFile bytes.now c.bytes c.problem c.found c.jobs) (OrNoMemory (FirstCheckFault bytes.now)) }
+{
+    let lines = read_lines(alloc, bytes)?;
+    let unkept = first_unkept_by(rt, alloc, &lines.problem, &lines.items.found, threads)?;
+    checked(alloc, lines, unkept)
+}
+
+// What the lines of a checkpoint say, before it is checked that a search can go on from it. Err of what is wrong with them
+// first, and where no memory is left.
+fn read_lines(alloc: Global, bytes: &[u8]) -> Result<Lines, CheckFault>
+    ensures { MatchResult result
+        (λ lines. AreRead bytes.now lines.problem_bytes.items lines.problem (outline_parts lines.outline) lines.items.found.items lines.items.nodes.items)
+        (OrNoMemory (FirstCheckFault bytes.now)) }
 {
     let shape = read_shape(alloc, bytes)?;
     let problem = problem_of(alloc, shape.problem)?;
     let outline = Outline::of(alloc, &shape)?;
     let items = read_items(alloc, &problem, &shape, &outline)?;
-    let file = shape.problem;
-    // The lines are let go before the checks need memory.
-    drop(shape);
-    check_items(alloc, &problem, &outline, &items)?;
-    checkpoint_of(alloc, file, problem, &outline.sizes, items)
+    let problem_bytes = shape.problem.to_vec(alloc)?;
+    Ok(Lines {
+        problem_bytes,
+        problem,
+        outline,
+        items,
+    })
+}
+
+// The checkpoint of lines from which a search can go on, where it is known which found touch is the first that is not kept.
+fn checked(alloc: Global, lines: Lines, unkept: Option<usize>) -> Result<Checkpoint, CheckFault>
+    requires outlined { AreOutlined lines.problem (outline_parts lines.outline) lines.items.found.items lines.items.nodes.items }
+    requires unkept { TellsFirst (IsKeptAt lines.problem lines.items.found.items) (length lines.items.found.items) unkept }
+    ensures { (bytes : List ℕ)
+        → AreRead bytes lines.problem_bytes.items lines.problem (outline_parts lines.outline) lines.items.found.items lines.items.nodes.items
+        → MatchResult result (λ c. CheckFile bytes c.bytes c.problem c.found c.jobs) (OrNoMemory (FirstCheckFault bytes)) }
+{
+    check_items(alloc, &lines.problem, &lines.outline, &lines.items, unkept)?;
+    checkpoint_of(alloc, lines)
 }
 
 // The problem of a file.
@@ -95,19 +167,20 @@ fn problem_of(alloc: Global, bytes: &[u8]) -> Result<Problem, CheckFault>
 }
 
 // The checkpoint of all that was read.
-fn checkpoint_of(
-    alloc: Global,
-    file: &[u8],
-    problem: Problem,
-    sizes: &[usize],
-    items: Items,
-) -> Result<Checkpoint, CheckFault>
-    requires { in_all sizes.now ≡ length items.nodes.items }
-    ensures { MatchResult result (IsMadeOf file.now problem sizes.now items.found.items items.nodes.items) (λ why. why ≡ fault.NoMemory) }
+fn checkpoint_of(alloc: Global, lines: Lines) -> Result<Checkpoint, CheckFault>
+    requires { in_all lines.outline.sizes.items ≡ length lines.items.nodes.items }
+    ensures { MatchResult result
+        (IsMadeOf lines.problem_bytes.items lines.problem lines.outline.sizes.items lines.items.found.items lines.items.nodes.items)
+        (λ why. why ≡ fault.NoMemory) }
 {
+    let Lines {
+        problem_bytes,
+        problem,
+        outline,
+        items,
+    } = lines;
     let Items { found, nodes } = items;
-    let problem_bytes = file.to_vec(alloc)?;
-    let jobs = into_jobs(alloc, sizes, nodes)?;
+    let jobs = into_jobs(alloc, &outline.sizes, nodes)?;
     Ok(Checkpoint {
         problem_bytes,
         problem,

@@ -1,10 +1,11 @@
 //! Found touches and nodes, read and checked.
 
-ghost use Rattle.std.specs.Prelude.{◌≡◌, ◌^◌, ◌<◌, MatchResult};
+ghost use Rattle.std.specs.Prelude.{◌≡◌, ◌^◌, ◌<◌, length, MatchResult};
+ghost use Rattle.cr_model.specs.Checks.{TellsFirst};
 ghost use Rattle.cr_store.specs.ShapeReads.{shape_parts};
 ghost use Rattle.cr_store.specs.Lines.{HasItems, last_in, outline_of};
 ghost use Rattle.cr_store.specs.Reading.{AreOutlined, outline_parts};
-ghost use Rattle.cr_store.specs.Faults.{OrNoMemory, IsUnread, AnswersFor, AnswersForAll, lengths_check, kept_check, order_check, overlap_check, item_checks};
+ghost use Rattle.cr_store.specs.Faults.{OrNoMemory, IsUnread, IsKeptAt, AnswersFor, AnswersForAll, lengths_check, kept_check, order_check, overlap_check, item_checks};
 
 use crate::checking::{first_long, first_out_of_order};
 use crate::fault::CheckFault;
@@ -13,7 +14,6 @@ use crate::outline::Outline;
 use crate::reading::{read_nodes, read_touches};
 use crate::shape::Shape;
 use cr_book::laws::callings_differ_in_their_texts;
-use cr_explore::first_unkept;
 use cr_model::{Calling, Problem};
 use cr_node::{Node, independent};
 use std::alloc::Global;
@@ -60,18 +60,20 @@ fn number_of_nodes(shape: &Shape) -> usize {
     number
 }
 
-/// Checks the found touches and nodes of all lines.
+/// Checks the found touches and nodes of all lines, where it is known which touch is the first that is not kept.
 pub fn check_items(
     alloc: Global,
     problem: &Problem,
     outline: &Outline,
     items: &Items,
+    unkept: Option<usize>,
 ) -> Result<(), CheckFault>
-    requires { AreOutlined problem.now (outline_parts outline.now) items.now.found.items items.now.nodes.items }
+    requires outlined { AreOutlined problem.now (outline_parts outline.now) items.now.found.items items.now.nodes.items }
+    requires unkept { TellsFirst (IsKeptAt problem.now items.now.found.items) (length items.now.found.items) unkept }
     ensures { AnswersForAll (item_checks problem.now (outline_parts outline.now) items.now.found.items items.now.nodes.items) result }
 {
     check_lengths(alloc, problem, outline, items)?;
-    check_kept(alloc, problem, outline, items)?;
+    check_kept(problem, outline, items, unkept)?;
     check_order(problem, outline, items)?;
     check_overlaps(alloc, problem, outline, items)
 }
@@ -97,15 +99,16 @@ fn check_lengths(
 
 // Each found touch is kept.
 fn check_kept(
-    alloc: Global,
     problem: &Problem,
     outline: &Outline,
     items: &Items,
+    unkept: Option<usize>,
 ) -> Result<(), CheckFault>
-    requires { AreOutlined problem.now (outline_parts outline.now) items.now.found.items items.now.nodes.items }
+    requires outlined { AreOutlined problem.now (outline_parts outline.now) items.now.found.items items.now.nodes.items }
+    requires unkept { TellsFirst (IsKeptAt problem.now items.now.found.items) (length items.now.found.items) unkept }
     ensures { AnswersFor (kept_check problem.now (outline_parts outline.now) items.now.found.items) result }
 {
-    match first_unkept(alloc, problem, &items.found)? {
+    match unkept {
         Some(touch) => Err(CheckFault::NotKept(line_of(outline, touch))),
         None => Ok(()),
     }

@@ -11,7 +11,7 @@
 //! - [`checkpoint_pieces`]: the checkpoint of touches in any order and jobs, sorted and written by several threads.
 //! - [`Job`]: what these read jobs from, which may have their nodes or refer to them.
 //! - [`read_checkpoint`]: the checkpoint that some bytes are ([`Checkpoint`]), or why they are none
-//!   ([`CheckFault`]).
+//!   ([`CheckFault`]). [`read_checkpoint_by`]: the same by several threads.
 //! - [`put_block`], [`next_block`]: texts one after another in one file, each a block with its length ([`Next`]).
 //!
 //! Writing fails only where no memory is left.
@@ -49,7 +49,7 @@ mod texts;
 mod writing;
 
 pub use blocks::{Next, next_block, put_block};
-pub use checkpoint::{Checkpoint, read_checkpoint};
+pub use checkpoint::{Checkpoint, read_checkpoint, read_checkpoint_by};
 pub use collecting::{Remaining, remaining_in_order, remaining_of};
 pub use fault::CheckFault;
 pub use job::Job;

@@ -5,10 +5,12 @@ ghost use Rattle.cr_model.specs.ProblemFiles.{ProblemFile};
 
 use cr_board::{Board, Opening};
 use cr_store::{
-    CheckFault, Checkpoint, read_checkpoint, remaining_of, write_checkpoint, write_parts,
+    CheckFault, Checkpoint, read_checkpoint, read_checkpoint_by, remaining_of, write_checkpoint,
+    write_parts,
 };
 use std::alloc::Global;
 use std::test::Fail;
+use std::thread::Threads;
 
 /// Plain Bob Doubles, of 124 bytes.
 pub const DOUBLES: &str =
@@ -416,5 +418,65 @@ fn boards_are_written(rt: HostRuntime) -> Result<(), Fail> {
     assert!(rt; held.as_slice() == text_of(alloc, "2", "124", DOUBLES, HELD)?.as_slice());
     let left = remaining_of(alloc, board)?;
     assert!(rt; left.found.len() == 1 && left.jobs.len() == 2);
+    Ok(())
+}
+
+// The places of touches that are not kept among 4,001, and the fault: the first touch stands on line 15. Where all are kept
+// the second one is the first again.
+const UNKEPT: &[(&[usize], Told)] = &[
+    (&[], (6, 16, 0)),
+    (&[0], (5, 15, 0)),
+    (&[1_001], (5, 1_016, 0)),
+    (&[2_500], (5, 2_515, 0)),
+    (&[4_000], (5, 4_015, 0)),
+    (&[700, 3_500], (5, 715, 0)),
+];
+
+// The last lines of a checkpoint of 4,001 found touches, of which those at some places are not kept.
+fn found_lines(alloc: Global, places: &[usize]) -> Result<String, Fail> {
+    let mut lines = String::new(alloc);
+    lines.push_str("found 4001\n")?;
+    for place in 0..4_001 {
+        lines.push_str(found_line(places, place))?;
+    }
+    lines.push_str("jobs 1\njob 1\n0 -\nend\n")?;
+    Ok(lines)
+}
+
+// The line of a touch that is kept, or at one of the places of one of which a rotation is less.
+fn found_line(places: &[usize], place: usize) -> &'static str {
+    if places.contains(&place) {
+        "60 bpbpbp\n"
+    } else {
+        "20 bb\n"
+    }
+}
+
+// Whether a text has this fault, by one thread and by four.
+fn is_fault_by_any(
+    rt: &(impl AllocGlobal + Threads + Sync),
+    text: &[u8],
+    want: Told,
+) -> Result<bool, Fail> {
+    for threads in [1, 4] {
+        match read_checkpoint_by(rt, rt.alloc(), text, threads) {
+            Ok(_) => return Ok(false),
+            Err(fault) => {
+                if told(fault) != want {
+                    return Ok(false);
+                }
+            }
+        }
+    }
+    Ok(fault_of(rt.alloc(), text) == Some(want))
+}
+
+#[test]
+fn several_threads_tell_the_same_fault(rt: HostRuntime) -> Result<(), Fail> {
+    for &(places, want) in UNKEPT {
+        let lines = found_lines(rt.alloc(), places)?;
+        let text = text_of(rt.alloc(), "2", "124", DOUBLES, &lines)?;
+        assert!(rt; is_fault_by_any(&rt, &text, want)?);
+    }
     Ok(())
 }

@@ -1,6 +1,6 @@
 //! Searches and trails over boards, by one worker or by several.
 
-ghost use Rattle.std.specs.Prelude.{◌≡◌, ◌↔◌, ◌<◌, ◌≤◌, [], IsTrue, IfOk, IfSome};
+ghost use Rattle.std.specs.Prelude.{◌≡◌, ◌↔◌, ◌<◌, ◌≤◌, [], length, IsTrue, IfOk, IfSome};
 ghost use Rattle.cr_model.specs.Checkpoints.{CanGoOn};
 ghost use Rattle.cr_model.specs.ProblemFiles.{ProblemFile};
 ghost use Rattle.cr_run.specs.Runs.{IsRun};
@@ -13,7 +13,7 @@ use crate::gate::{Gate, Gated};
 use crate::narrow::looking_ahead;
 use crate::start::Start;
 use cr_board::{Board, Opening};
-use cr_explore::Search;
+use cr_explore::{LONG_ROOM, LONGEST_ROOM, Room, Search};
 use cr_io::Sink;
 use cr_node::Explorer;
 use cr_row::NoMemory;
@@ -27,8 +27,23 @@ use std::alloc::Global;
 use std::sync::Wait;
 use std::thread::Threads;
 
-// After so many turns of each worker a search is long: what is left of it is searched with more room.
-const LONG_TURNS: u64 = 1 << 22;
+// A search that rings tries to get numbers in this room once each worker took so many turns.
+struct Trial {
+    turns: u64,
+    room: Room,
+}
+
+// A trial takes about as long as the turns before it, whether there is room or not: a second, and then some ten.
+const TRIALS: &[Trial] = &[
+    Trial {
+        turns: 1 << 18,
+        room: LONG_ROOM,
+    },
+    Trial {
+        turns: 1 << 22,
+        room: LONGEST_ROOM,
+    },
+];
 
 /// Goes on with a search by one worker, who waits for nobody, until no job is left or the turns that are allowed are
 /// used. One that rings gets more room once it is long, and one that counts no turns passes by what cannot come to what is
@@ -45,20 +60,40 @@ pub fn search_by_one<R: AllocGlobal + Threads + Sync, G: Gate + Sync>(
         now.left.found.items (lists now.left.jobs.items)) }
 {
     runs_follow_one_another();
-    let alloc = rt.alloc();
-    let before = RunProgress::begun(alloc, left)?;
+    let before = RunProgress::begun(rt.alloc(), left)?;
+    let end = search_on_by_one(rt, search, gate, before, turns, TRIALS)?;
+    Ok(end)
+}
+
+// Goes on from where a search went, by one worker. While it rings, it tries to get numbers in these rooms, one after another.
+fn search_on_by_one<R: AllocGlobal + Threads + Sync, G: Gate + Sync>(
+    rt: &R,
+    search: &Search,
+    gate: &G,
+    before: RunProgress,
+    turns: Option<u64>,
+    trials: &[Trial],
+) -> Result<RunProgress, NoMemory>
+    requires goes_on { CanGoOn (searched search.now) [] (lists before.left.jobs.items) }
+    ensures { IfOk result (λ now. RunsOn (searched search.now) before.left.found.items (lists before.left.jobs.items) turns
+        now.left.found.items (lists now.left.jobs.items)) }
+{
+    runs_follow_one_another();
+    let Some((trial, later)) = next_trial(search, trials) else {
+        return go_on_by_one(rt, search, gate, before, turns);
+    };
     let gated = Gated {
         explorer: search,
         gate,
     };
-    let first = first_turns(search, 1, turns);
-    let went = run_by_one(alloc, &gated, before, Some(first))?;
+    let first = first_turns(trial, 1, turns);
+    let went = run_by_one(rt.alloc(), &gated, before, Some(first))?;
     if is_over(&went.left) {
         return Ok(went);
     }
     let rest = rest_of(turns, first);
-    let longer = more_room(alloc, search, rest);
-    let end = go_on_by_one(rt, roomiest(&longer, search), gate, went, rest)?;
+    let longer = more_room(rt.alloc(), search, trial.room, rest);
+    let end = search_on_by_one(rt, roomiest(&longer, search), gate, went, rest, later)?;
     Ok(end)
 }
 
@@ -104,20 +139,45 @@ pub fn search_by<R: AllocGlobal + Threads + Wait + Sync, G: Gate + Sync>(
     ensures { IfOk result (λ now. RunsTo (searched search.now) left.found.items (lists left.jobs.items) turns
         now.left.found.items (lists now.left.jobs.items)) }
 {
-    runs_follow_one_another();
     let before = RunProgress::begun(rt.alloc(), left)?;
+    runs_follow_one_another();
+    let end = search_on_by(rt, workers, search, gate, before, turns, TRIALS)?;
+    Ok(end)
+}
+
+// The same as `search_on_by_one` by so many workers.
+fn search_on_by<R: AllocGlobal + Threads + Wait + Sync, G: Gate + Sync>(
+    rt: &R,
+    workers: u32,
+    search: &Search,
+    gate: &G,
+    before: RunProgress,
+    turns: Option<u64>,
+    trials: &[Trial],
+) -> Result<RunProgress, NoMemory>
+    requires goes_on { CanGoOn (searched search.now) [] (lists before.left.jobs.items) }
+    requires some_workers { 1 ≤ workers }
+    requires few_workers { workers ≤ 64 }
+    ensures { IfOk result (λ now. RunsOn (searched search.now) before.left.found.items (lists before.left.jobs.items) turns
+        now.left.found.items (lists now.left.jobs.items)) }
+{
+    runs_follow_one_another();
+    let Some((trial, later)) = next_trial(search, trials) else {
+        return go_on_by(rt, workers, search, gate, before, turns);
+    };
     let gated = Gated {
         explorer: search,
         gate,
     };
-    let first = first_turns(search, workers, turns);
+    let first = first_turns(trial, workers, turns);
     let went = run_by(rt, workers, &gated, before, Some(first))?;
     if is_over(&went.left) {
         return Ok(went);
     }
     let rest = rest_of(turns, first);
-    let longer = more_room(rt.alloc(), search, rest);
-    let end = go_on_by(rt, workers, roomiest(&longer, search), gate, went, rest)?;
+    let longer = more_room(rt.alloc(), search, trial.room, rest);
+    let search = roomiest(&longer, search);
+    let end = search_on_by(rt, workers, search, gate, went, rest, later)?;
     Ok(end)
 }
 
@@ -161,15 +221,23 @@ fn roomiest<'a>(longer: &'a Option<Search>, search: &'a Search) -> &'a Search
     }
 }
 
-// The turns of a search that rings before it is long, no more than are allowed. Another is as it stands at once.
-fn first_turns(search: &Search, workers: u32, turns: Option<u64>) -> u64
+// The next of some trials and those after it. None where a search has numbers, or none is left.
+fn next_trial<'a>(search: &Search, trials: &'a [Trial]) -> Option<(&'a Trial, &'a [Trial])>
+    ensures { IfSome result (λ next. length next.1.now < length trials.now) }
+{
+    if search.rings() {
+        trials.split_first()
+    } else {
+        None
+    }
+}
+
+// The turns before a trial, no more than are allowed.
+fn first_turns(trial: &Trial, workers: u32, turns: Option<u64>) -> u64
     requires { workers ≤ 64 }
     ensures { KeepsTo turns result }
 {
-    if !search.rings() {
-        return 0;
-    }
-    let most = u64::from(workers) * LONG_TURNS;
+    let most = u64::from(workers).saturating_mul(trial.turns);
     match turns {
         Some(turns) => turns.min(most),
         None => most,
@@ -194,14 +262,14 @@ fn rest_of(turns: Option<u64>, used: u64) -> Option<u64>
     }
 }
 
-// The search with more room, where there are turns for it.
-fn more_room(alloc: Global, search: &Search, turns: Option<u64>) -> Option<Search>
+// The search with numbers in a room, where there are turns for it.
+fn more_room(alloc: Global, search: &Search, room: Room, turns: Option<u64>) -> Option<Search>
     ensures { IfSome result (λ longer. searched longer ≡ searched search.now) }
 {
     if turns == Some(0) {
         return None;
     }
-    search.with_more_room(alloc)
+    search.with_more_room(alloc, room)
 }
 
 /// Goes on from where a search went, by one worker, who waits for nobody, until no job is left or the turns that are
@@ -305,15 +373,14 @@ pub fn trail_by<R: AllocGlobal + Threads + Wait + Sync, G: Gate + Sync, K: Sink>
     run_trail_by(rt, workers, &gated, start, every, sink)
 }
 
-// The search with more room, where the turns between two checkpoints are as many as make a search long.
+// The search with numbers, in the largest room for which the turns between two checkpoints are enough.
 fn room_for_trail(alloc: Global, search: &Search, workers: u32, every: u64) -> Option<Search>
     requires { workers ≤ 64 }
     ensures { IfSome result (λ longer. searched longer ≡ searched search.now) }
 {
-    if every < u64::from(workers) * LONG_TURNS {
-        return None;
-    }
-    search.with_more_room(alloc)
+    let trial = TRIALS.iter().rev().find(|trial| u64::from(workers).saturating_mul(trial.turns)
+        <= every)?;
+    search.with_more_room(alloc, trial.room)
 }
 
 // The trail of an explorer, by one worker.

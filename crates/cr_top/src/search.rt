@@ -76,7 +76,7 @@ fn searched_alone<R: AllocGlobal + Threads + Sync, S: Source, K: Sink, G: Gate +
     ensures source_later { S.faults source.old ≤ S.faults source.new }
     ensures sink_later { K.faults sink.old ≤ K.faults sink.new }
 {
-    let prepared = prepare(rt, source)?;
+    let prepared = prepare(rt, 1, source)?;
     let start = prepared.start;
     let went = search_by_one(rt, &prepared.search, gate, start.left, turns)?;
     write_search(rt, 1, &start.problem, &start.bytes, went, turns, sink)
@@ -103,7 +103,7 @@ pub fn searched_together<
     ensures source_later { S.faults source.old ≤ S.faults source.new }
     ensures sink_later { K.faults sink.old ≤ K.faults sink.new }
 {
-    let prepared = prepare(rt, source)?;
+    let prepared = prepare(rt, workers, source)?;
     let start = prepared.start;
     let went = search_by(rt, workers, &prepared.search, gate, start.left, turns)?;
     write_search(rt, workers, &start.problem, &start.bytes, went, turns, sink)

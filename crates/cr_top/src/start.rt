@@ -1,8 +1,10 @@
 //! What an input says.
 
-ghost use Rattle.std.specs.Prelude.{◌≡◌, ℕ, [], ◌∷◌, IfOk};
+ghost use Rattle.std.specs.Prelude.{◌≡◌, ◌≢◌, ℕ, [], ◌∷◌, IfOk, IfErr};
 ghost use Rattle.cr_model.specs.ProblemFiles.{ProblemFile};
-ghost use Rattle.cr_model.specs.Checkpoints.{CanGoOn, IsCheckpoint};
+ghost use Rattle.cr_model.specs.Checkpoints.{CanGoOn, CheckFile, IsCheckpoint};
+ghost use Rattle.cr_store.specs.declared.fault.CheckFault.TheVariants as fault;
+ghost use Rattle.cr_store.specs.Faults.{FirstCheckFault};
 ghost use Rattle.cr_store.specs.Written.{lists};
 ghost use Rattle.cr_top.specs.Refused.{StartsFrom};
 
@@ -12,8 +14,9 @@ use cr_node::Node;
 use cr_node::laws::work_goes_on;
 use cr_read::read_problem;
 use cr_row::NoMemory;
-use cr_store::{CheckFault, Remaining, read_checkpoint};
+use cr_store::{CheckFault, Checkpoint, Remaining, read_checkpoint, read_checkpoint_by};
 use std::alloc::Global;
+use std::thread::Threads;
 
 /// What an input says: the problem's bytes, the problem, and what is left of its search.
 #[derive(Drop)]
@@ -28,18 +31,38 @@ pub fn start_of(alloc: Global, input: Vec<u8>) -> Result<Start, Refusal>
     ensures { StartsFrom input.items result }
 {
     if input.starts_with(b"ringsearch checkpoint ") {
-        resumed(alloc, &input)
+        let bytes: &[u8] = &input;
+        resumed(bytes, read_checkpoint(alloc, bytes))
     } else {
         opened(alloc, input)
     }
 }
 
-// What a checkpoint says.
-fn resumed(alloc: Global, input: &[u8]) -> Result<Start, Refusal>
-    requires { IsCheckpoint input.now }
-    ensures { StartsFrom input.now result }
+/// The same: the found touches of a checkpoint are looked at by so many threads.
+pub fn start_of_by<R: Threads + Sync>(
+    rt: &R,
+    alloc: Global,
+    input: Vec<u8>,
+    threads: usize,
+) -> Result<Start, Refusal>
+    ensures { StartsFrom input.items result }
 {
-    match read_checkpoint(alloc, input) {
+    if input.starts_with(b"ringsearch checkpoint ") {
+        let bytes: &[u8] = &input;
+        resumed(bytes, read_checkpoint_by(rt, alloc, bytes, threads))
+    } else {
+        opened(alloc, input)
+    }
+}
+
+// What bytes say that were read as a checkpoint.
+fn resumed(bytes: &[u8], read: Result<Checkpoint, CheckFault>) -> Result<Start, Refusal>
+    requires begins { IsCheckpoint bytes.now }
+    requires checkpoint { IfOk read (λ c. CheckFile bytes.now c.bytes c.problem c.found c.jobs) }
+    requires fault { IfErr read (λ why. why ≢ fault.NoMemory → FirstCheckFault bytes.now why) }
+    ensures { StartsFrom bytes.now result }
+{
+    match read {
         Ok(checkpoint) => Ok(Start {
             bytes: checkpoint.problem_bytes,
             problem: checkpoint.problem,

@@ -61,7 +61,7 @@ fn trailed_alone<R: AllocGlobal + Threads + Sync, S: Source, K: Sink, G: Gate + 
     ensures sink_later { K.faults sink.old ≤ K.faults sink.new }
 {
     a_trail_of_what_an_input_says();
-    let prepared = prepare(rt, source)?;
+    let prepared = prepare(rt, 1, source)?;
     let start = prepared.start;
     let end = trail_by_one(rt, &prepared.search, gate, start, every, sink);
     result_for(end)
@@ -85,7 +85,7 @@ pub fn trailed_together<R: AllocGlobal + Threads + Wait + Sync, S: Source, K: Si
     ensures sink_later { K.faults sink.old ≤ K.faults sink.new }
 {
     a_trail_of_what_an_input_says();
-    let prepared = prepare(rt, source)?;
+    let prepared = prepare(rt, workers, source)?;
     let start = prepared.start;
     let end = trail_by(rt, workers, &prepared.search, gate, start, every, sink);
     result_for(end)

@@ -2,11 +2,13 @@
 //! comes round at once as step 1, and the plain lead of another method with the same changes as step 2. Each function does
 //! nothing: its contract is the law.
 
-ghost use Rattle.std.specs.Prelude.{◌≡◌, true, false, [], ◌∷◌, map, Some};
+ghost use Rattle.std.specs.Prelude.{◌≡◌, true, false, [], ◌∷◌, map, Some, None};
 ghost use Rattle.cr_row.specs.Rows.{rounds};
 ghost use Rattle.cr_model.specs.Examples.{pair, asks, marked, lettered, fours, com_from};
 ghost use Rattle.cr_ahead.specs.Home.{power, is_part_end, is_way_home};
 ghost use Rattle.cr_ahead.specs.Items.{cannot_come};
+ghost use Rattle.cr_ahead.specs.ByMethod.{place_by, last_at};
+ghost use Rattle.cr_ahead.specs.Exact.{cannot_come_by, cannot_come_by_heads};
 ghost use Rattle.cr_ahead.specs.LeadMoves.{part_least, AreMovesOf, IsPlaceOf, HaveGains, marked_gain};
 ghost use Rattle.cr_ahead.specs.Examples.{minimus_heads, minimus_moves};
 
@@ -70,4 +72,19 @@ pub fn moves_of_plain_bob_minimus()
     ensures place { IsPlaceOf (pair (asks 1 24 1)) minimus_heads 2 (0 ∷ 2 ∷ []) }
     ensures three_parts { AreMovesOf (pair (asks 1 24 3)) minimus_heads minimus_moves → ⊥ }
     ensures exchanged { AreMovesOf (pair (asks 1 24 1)) minimus_heads (record minimus_moves { next = 0 ∷ 1 ∷ 1 ∷ 2 ∷ 1 ∷ 2 ∷ 0 ∷ 2 ∷ 0 ∷ [] }) → ⊥ }
+{}
+
+/// In one part changes of method are looked at, from the first lead on: a lead of each method is one change, and a course of three
+/// leads has two at most. In three parts they are not, and by lead heads alone they are not.
+pub fn changes_of_method_in_one_part()
+    ensures one { map (λ most. cannot_come_by (pair (record (asks 1 24 1) { «com» = Some (com_from 0 most) })) (0 ∷ 2 ∷ [])) (0 ∷ 1 ∷ []) ≡ true ∷ false ∷ [] }
+    ensures root { map (λ least. cannot_come_by (pair (record (asks 24 24 1) { «com» = Some (com_from least 9) })) []) (2 ∷ 3 ∷ []) ≡ false ∷ true ∷ [] }
+    ensures heads { cannot_come_by_heads (pair (record (asks 24 24 1) { «com» = Some (com_from 3 9) })) [] ≡ false }
+    ensures parts { cannot_come_by (pair (record (asks 24 24 3) { «com» = Some (com_from 9 9) })) [] ≡ false }
+{}
+
+/// With two methods each head has three places: that of no last method, then those of the methods.
+pub fn places_of_two_methods()
+    ensures places { map (place_by 3 2) (None ∷ Some 0 ∷ Some 1 ∷ []) ≡ 6 ∷ 7 ∷ 8 ∷ [] }
+    ensures last { map (last_at 3) (5 ∷ 6 ∷ 7 ∷ 8 ∷ 9 ∷ []) ≡ Some 1 ∷ None ∷ Some 0 ∷ Some 1 ∷ None ∷ [] }
 {}

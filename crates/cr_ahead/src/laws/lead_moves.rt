@@ -1,13 +1,14 @@
 //! Moves from lead head to lead head of a problem: what a table of them answers says of whole touches.
 
-ghost use Rattle.std.specs.Prelude.{◌≡◌, ℕ, ◌+◌, ◌-◌, ◌*◌, ◌≤◌, ◌↔◌, List, [], get_or, Option, None, IsNone};
+ghost use Rattle.std.specs.Prelude.{◌≡◌, ℕ, ◌+◌, ◌-◌, ◌*◌, ◌≤◌, ◌↔◌, List, [], length, get_or, Option, None, Some, IsNone};
 ghost use Rattle.cr_model.specs.declared.query.Cell.{Cell};
 ghost use Rattle.cr_model.specs.declared.query.Com.{Com};
 ghost use Rattle.cr_model.specs.declared.query.Count.{Count};
 ghost use Rattle.cr_model.specs.declared.query.MethodCount.{MethodCount};
 ghost use Rattle.cr_model.specs.Problems.{PatternParts, ProblemParts};
-ghost use Rattle.cr_model.specs.Callings.{rows_of, length_of};
+ghost use Rattle.cr_model.specs.Callings.{rows_of, length_of, method_of};
 ghost use Rattle.cr_model.specs.Queries.{part_cap, leads_marked, leads_lettered, rows_fitting, changes_of_method};
+ghost use Rattle.cr_model.specs.Sizes.{child};
 ghost use Rattle.cr_model.specs.Sound.{IsSound};
 ghost use Rattle.cr_model.specs.Dead.{parts_of};
 ghost use Rattle.cr_ahead.specs.declared.gains.Gains.{Gains};
@@ -102,4 +103,12 @@ pub fn changes_of_method_in_parts()
         → IsWayHome p node way
         → (parts_of p * (changes_of_method p node + gain_of m place way) ≤ changes_of_method p (touch_with p node way))
         × (changes_of_method p (touch_with p node way) ≤ parts_of p * (changes_of_method p node + gain_of m place way) + parts_of p - 1) }
+{}
+
+/// A lead more changes the method, behind the last lead, or it does not. So a node has no more changes of method than leads.
+pub fn changes_of_method_lead_by_lead()
+    ensures more { (p : ProblemParts) (node : List ℕ) (step : ℕ)
+        → changes_of_method p (child node step) ≡ changes_of_method p node + changing_gain p (last_method p node) step }
+    ensures last { (p : ProblemParts) (node : List ℕ) (step : ℕ) → last_method p (child node step) ≡ Some (method_of p step) }
+    ensures few { (p : ProblemParts) (node : List ℕ) → changes_of_method p node ≤ length node }
 {}

@@ -218,7 +218,7 @@ fn tells(outlook: &Outlook, nodes: &[Node]) -> bool {
         if place as usize >= outlook.places() || so_far.len() != outlook.items() {
             return false;
         }
-        if outlook.cannot_come(place, changes, so_far) != wanted {
+        if outlook.cannot_come(place, changes, so_far, None, 0) != wanted {
             return false;
         }
     }
@@ -236,8 +236,12 @@ fn outlook(alloc: Global, problem: &Problem, most_bytes: u64) -> Result<Option<O
 }
 
 fn heads(alloc: Global) -> Result<Vec<Row>, Fail> {
+    heads_of(alloc, HEADS)
+}
+
+pub fn heads_of(alloc: Global, rows: &[[u8; 5]]) -> Result<Vec<Row>, Fail> {
     let mut heads = Vec::new(alloc);
-    for bells in HEADS {
+    for bells in rows {
         heads.push(Row::of(bells).ok_or("the bells are a row")?)?;
     }
     Ok(heads)
@@ -247,22 +251,23 @@ fn problem(alloc: Global, asked: &Asked) -> Result<Problem, Fail> {
     let stage = Stage::new(5).ok_or("five bells are a stage")?;
     let letters = Vec::from_slice(alloc, b"A")?;
     let mut leads = Vec::new(alloc);
-    leads.push(lead(alloc, stage, b'p', &[1, 2, 5])?)?;
-    leads.push(lead(alloc, stage, b'b', &[1, 4, 5])?)?;
+    leads.push(lead(alloc, stage, 0, b'p', &[1, 2, 5])?)?;
+    leads.push(lead(alloc, stage, 0, b'b', &[1, 4, 5])?)?;
     match Problem::new(stage, letters, leads, query(alloc, asked)?) {
         Ok(problem) => Ok(problem),
         Err(_) => Err(Fail::from("the parts are a problem's")),
     }
 }
 
-fn lead(alloc: Global, stage: Stage, mark: u8, last: &[u8]) -> Result<Lead, Fail> {
+// A lead of Plain Bob Doubles with these places at its end.
+pub fn lead(alloc: Global, stage: Stage, method: u8, mark: u8, last: &[u8]) -> Result<Lead, Fail> {
     let mut changes = Vec::new(alloc);
     for index in 0..9 {
         let places: &[u8] = if index % 2 == 0 { &[5] } else { &[1] };
         changes.push(change(stage, places)?)?;
     }
     changes.push(change(stage, last)?)?;
-    let step = Step { method: 0, mark };
+    let step = Step { method, mark };
     Ok(Lead { step, changes })
 }
 

@@ -37,3 +37,6 @@ returns-clause-ground c =
       moves = moves_are p c.args.heads.now c.args.next.now c.args.range.unit m c.stage.ensures.sound c.requires.leads c.requires.range.is_unit are;
       lengths = c.requires.range;
     })
+
+pub returns-clause-next : goal.returns-clause-next
+returns-clause-next c = ap (λ (m : MovesParts). m.next) c.in-Some.ensures.is ∙ c.in_ok-next.ensures.items_if_clones_equal (λ x y same. same)

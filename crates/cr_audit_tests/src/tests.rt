@@ -3,7 +3,7 @@
 ghost use Rattle.std.specs.Prelude.{All, IfOk};
 ghost use Rattle.cr_model.specs.Callings.{HasSteps};
 
-use super::*;
+use cr_audit::{AuditFault, Item, LogLine, Verdict, audit, log_text};
 use cr_model::{Count, Lead, Problem, Query, Step};
 use cr_row::{Change, Stage};
 use std::alloc::Global;
