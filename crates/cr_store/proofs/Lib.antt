@@ -31,4 +31,5 @@ pub mod ShapeStops
 pub mod ShapeWhole
 pub mod ShapeLaws
 pub mod ShapeDecided
+pub mod HandedNodes
 pub mod Pieces

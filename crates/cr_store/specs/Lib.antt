@@ -9,5 +9,6 @@ pub mod Progress
 pub mod Chains
 pub mod ShapeStages
 pub mod ShapeSteps
+pub mod Handing
 pub mod Searches
 pub mod Blocks

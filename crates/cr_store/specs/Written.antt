@@ -1,10 +1,10 @@
 -- A board as it is written: what was found in the book's order, and all jobs.
-use Rattle.std.specs.Prelude.{◌≡◌, ℕ, List, [], ◌∷◌, ◌++◌, length, map, codes, Option, Some, None}
+use Rattle.std.specs.Prelude.{◌≡◌, ℕ, List, [], ◌∷◌, ◌++◌, length, map, flat_map, codes, Option, Some, None}
 use Rattle.std.specs.Global.{Vec}
 use denote.Ref.{Bor}
 use Rattle.std.specs.List.Sorted.{IsPermutation, IsSorted}
 use Rattle.cr_model.specs.Problems.{ProblemParts}
-use Rattle.cr_model.specs.Books.{book_order}
+use Rattle.cr_model.specs.Books.{book_order, book_line}
 use Rattle.cr_model.specs.Checkpoints.{CheckFile, checkpoint_text, number_line, job_lines}
 use Rattle.cr_board.specs.Jobs.{JobParts}
 use Rattle.cr_board.specs.Boards.{BoardParts}
@@ -37,7 +37,7 @@ pub record IsTextOfLeft (p : ProblemParts) (bytes : List ℕ) (found : List (Lis
   pub ascending : IsSorted (book_order p) book
   pub is : text ≡ checkpoint_text p bytes book jobs
 
--- what stands in a checkpoint before the lines of so many found touches, and behind them
+-- what stands in a checkpoint before the lines of so many found touches
 abbrev pub head_text : List ℕ → ℕ → List ℕ
 head_text bytes touches = number_line (codes "ringsearch checkpoint") 2
     ++ number_line (codes "problem") (length bytes)
@@ -45,5 +45,10 @@ head_text bytes touches = number_line (codes "ringsearch checkpoint") 2
     ++ codes "\n"
     ++ number_line (codes "found") touches
 
+-- what stands before its jobs: that, and the lines of found touches
+abbrev pub front_text : ProblemParts → List ℕ → List (List ℕ) → List ℕ
+front_text p bytes found = head_text bytes (length found) ++ flat_map (book_line p) found
+
+-- and the jobs and what stands behind them
 abbrev pub tail_text : ProblemParts → List (List (List ℕ)) → List ℕ
 tail_text p jobs = number_line (codes "jobs") (length jobs) ++ job_lines p 2 [] jobs ++ codes "end\n"

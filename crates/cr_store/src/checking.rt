@@ -12,8 +12,8 @@ use cr_node::Node;
 use cr_row::NoMemory;
 use std::alloc::Global;
 
-// The number of changes of a node.
-fn length_of(alloc: Global, problem: &Problem, node: &Node) -> Result<u64, NoMemory>
+/// The number of changes of a node.
+pub fn length_of(alloc: Global, problem: &Problem, node: &Node) -> Result<u64, NoMemory>
     requires { HasSteps problem.now node.now }
     ensures { IfOk result (λ long. long ≡ changes_in problem.now node.now) }
 {

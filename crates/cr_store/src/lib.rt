@@ -12,6 +12,9 @@
 //! - [`Job`]: what these read jobs from, which may have their nodes or refer to them.
 //! - [`read_checkpoint`]: the checkpoint that some bytes are ([`Checkpoint`]), or why they are none
 //!   ([`CheckFault`]). [`read_checkpoint_by`]: the same by several threads.
+//! - [`each_node`]: the nodes of a checkpoint's text, handed to a [`NodeSink`] one after another, and none kept.
+//! - [`write_front`], [`write_node`], [`write_count`], [`write_tail`]: a checkpoint written part by part, and
+//!   [`shared_steps`]: what the line of a node leaves out.
 //! - [`put_block`], [`next_block`]: texts one after another in one file, each a block with its length ([`Next`]).
 //!
 //! Writing fails only where no memory is left.
@@ -34,6 +37,7 @@ mod checking;
 mod checkpoint;
 mod collecting;
 mod fault;
+mod handing;
 mod items;
 mod job;
 pub mod laws;
@@ -52,5 +56,7 @@ pub use blocks::{Next, next_block, put_block};
 pub use checkpoint::{Checkpoint, read_checkpoint, read_checkpoint_by};
 pub use collecting::{Remaining, remaining_in_order, remaining_of};
 pub use fault::CheckFault;
+pub use handing::{NodeSink, each_node};
 pub use job::Job;
-pub use writing::{checkpoint_pieces, write_checkpoint, write_parts};
+pub use texts::{shared_steps, write_count, write_node};
+pub use writing::{checkpoint_pieces, write_checkpoint, write_front, write_parts, write_tail};

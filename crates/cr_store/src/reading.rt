@@ -116,8 +116,8 @@ fn is_left_out(version: u64, before: &[u8], steps: &[u8], shared: u64) -> bool
     }
 }
 
-// The node of a line after another node, if it is that of one.
-fn read_node(
+/// The node of a line after another node, if it is that of one.
+pub fn read_node(
     alloc: Global,
     problem: &Problem,
     version: u64,

@@ -219,8 +219,8 @@ fn job_of<'a>(
     }
 }
 
-// The number of nodes on the first line of a job, which is not 0, and what comes after that line.
-fn job_line<'a>(text: &'a [u8]) -> Option<(u64, &'a [u8])>
+/// The number of nodes on the first line of a job, which is not 0, and what comes after that line.
+pub fn job_line<'a>(text: &'a [u8]) -> Option<(u64, &'a [u8])>
     ensures some { IfSome result (λ x. IsCount x.0 × (text.now ≡ number_line (codes "job") x.0 ++ x.1.now)) }
     ensures none { IfNone result (NoneBegins (number_line (codes "job")) IsCount text.now) }
 {

@@ -6,7 +6,7 @@ ghost use Rattle.cr_model.specs.Callings.{HasSteps};
 ghost use Rattle.cr_model.specs.ProblemFiles.{ProblemFile};
 ghost use Rattle.cr_model.specs.Checkpoints.{CanGoOn, CheckFile, checkpoint_text, nodes_of_jobs};
 ghost use Rattle.cr_book.specs.Pieces.{pieces_joined};
-ghost use Rattle.cr_store.specs.Written.{head_text, tail_text, IsWritten, IsTextOfLeft};
+ghost use Rattle.cr_store.specs.Written.{head_text, front_text, tail_text, IsWritten, IsTextOfLeft};
 
 use crate::collecting::{found_in_order, jobs_of};
 use crate::job::Job;
@@ -32,9 +32,24 @@ pub fn write_parts<J: Job>(
     ensures text { IfOk result (λ text. text.items ≡ checkpoint_text problem.now problem_bytes.now found.now (map J.nodes jobs.now)) }
     ensures file { IfOk result (λ text. CheckFile text.items problem_bytes.now problem.now found.now (map J.nodes jobs.now)) }
 {
+    let mut text = write_front(alloc, problem, problem_bytes, found)?;
+    write_tail(alloc, &mut text, problem, jobs)?;
+    Ok(text)
+}
+
+/// What stands before the jobs in a checkpoint, in version 2: a problem's file and the lines of found touches. Err where no
+/// memory is left.
+pub fn write_front(
+    alloc: Global,
+    problem: &Problem,
+    problem_bytes: &[u8],
+    found: &[Calling],
+) -> Result<Vec<u8>, NoMemory>
+    requires { All (HasSteps problem.now) found.now }
+    ensures { IfOk result (λ text. text.items ≡ front_text problem.now problem_bytes.now found.now) }
+{
     let mut text = head_of(alloc, problem_bytes, found.len() as u64)?;
     write_lines(&mut text, problem, found)?;
-    write_tail(alloc, &mut text, problem, jobs)?;
     Ok(text)
 }
 
@@ -93,8 +108,9 @@ fn head_of(alloc: Global, problem_bytes: &[u8], touches: u64) -> Result<Vec<u8>,
     Ok(text)
 }
 
-// Appends what stands behind the lines of found touches.
-fn write_tail<J: Job>(
+/// Appends what stands behind the lines of found touches: jobs, of which the first comes after the root, and the end. Err
+/// where no memory is left.
+pub fn write_tail<J: Job>(
     alloc: Global,
     text: &mut Vec<u8>,
     problem: &Problem,
