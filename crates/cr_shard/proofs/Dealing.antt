@@ -1,15 +1,15 @@
 -- Nodes dealt by their positions: which of them a shard has, and that each stands in one shard.
-use Rattle.std.proofs.Common.{◌≡◌, ◌≢◌, ℕ, suc, zero, ◌+◌, ◌-◌, ◌*◌, ◌/◌, ◌%◌, ◌<◌, ◌≤◌, Bool, true, false, cond, nat_eq, List, [], ◌∷◌, ◌++◌, length, get_or, drop, inl, inr, refl, sym, ap, ap₂, ◌∙◌, subst, arith, append_assoc}
+use Rattle.std.proofs.Common.{◌≡◌, ◌≢◌, ℕ, suc, zero, ◌+◌, ◌-◌, ◌*◌, ◌/◌, ◌%◌, ◌<◌, Bool, true, false, cond, nat_eq, List, [], ◌∷◌, ◌++◌, length, get_or, drop, inl, inr, refl, sym, ap, ap₂, ◌∙◌, subst, arith, append_assoc}
 use Rattle.std.specs.Prelude.{Contains, All}
-use Rattle.std.specs.List.{IsDistinct, AllByRecursion}
+use Rattle.std.specs.List.{IsDistinct}
 use Rattle.std.proofs.lemmas.Bool.{eqb-true, eq-eqb, cases_lt, false_from_ne_true}
 use Rattle.std.proofs.lemmas.List.{drop_more, drop-drop}
-use Rattle.std.proofs.lemmas.Nat.{mod-mul-add, div-add-mod', mod_below}
+use Rattle.std.proofs.lemmas.Nat.{mod-mul-add, div-add-mod'}
 use Rattle.std.proofs.lemmas.List.Elements.{All-cons, All-head, All-tail, All-from_recursion, recursion_from_All}
 use Rattle.std.proofs.lemmas.Map.Keys.{IsDistinct-head, IsDistinct-tail, IsDistinct-cons}
 use Rattle.cr_model.proofs.InOrder.{contains_cases, contains_more, none_held}
 use Rattle.cr_model.proofs.Listed.{held_first}
-use Rattle.cr_shard.specs.Deals.{dealt_from, dealt_nodes, as_jobs}
+use Rattle.cr_shard.specs.Deals.{dealt_from, dealt_nodes}
 
 -- a number that leaves a remainder, and some more, that is less than what is divided by
 wraps : (w q m r d : ℕ) → m ≡ q * w → r < w → 0 < d → d < w → (m + r + d) % w ≡ r → ⊥

@@ -1,16 +1,15 @@
 -- The first two shards that overlap, by fronts of the shards whose items meet.
-use Rattle.std.proofs.Common.{◌≡◌, ℕ, suc, zero, ◌+◌, ◌<◌, ◌≤◌, ◌⊎◌, true, false, List, [], ◌∷◌, ◌++◌, length, get_or, take, drop, inl, inr, refl, sym, ap, ap₂, ◌∙◌, subst, arith, append-nil, length-append}
-use Rattle.std.specs.Prelude.{All}
-use Rattle.std.proofs.lemmas.Bool.{true≢false, cases_lt, cases_Bool, true_from_ne_false, false_from_ne_true}
-use Rattle.std.proofs.lemmas.List.{drop_more, take_all, get_or-take, get_or_append_left, get_or_default, length-take-le}
-use Rattle.std.proofs.lemmas.List.Elements.{All-take, All-append, All-cons, All-nil}
+use Rattle.std.proofs.Common.{◌≡◌, ℕ, suc, zero, ◌+◌, ◌<◌, ◌≤◌, false, List, [], ◌∷◌, ◌++◌, length, get_or, take, drop, inl, inr, refl, sym, ap, ap₂, ◌∙◌, subst, arith, length-append}
+use Rattle.std.proofs.lemmas.Bool.{true≢false, cases_lt, true_from_ne_false, false_from_ne_true}
+use Rattle.std.proofs.lemmas.List.{drop_more, get_or-take, get_or_append_left, get_or_default, length-take-le}
+use Rattle.std.proofs.lemmas.List.Elements.{All-take, All-append}
 use Rattle.std.proofs.Math.Seq.{get_or-append_seam}
 use Rattle.cr_model.specs.Problems.{ProblemParts}
 use Rattle.cr_model.specs.Checkpoints.{CanGoOn}
 use Rattle.cr_store.specs.Progress.{Progress}
-use Rattle.cr_shard.specs.Joins.{shards_overlap, NoneOverlap}
+use Rattle.cr_shard.specs.Joins.{shards_overlap}
 use Rattle.cr_shard.specs.JoinFaults.{IsOverlap}
-use Rattle.cr_shard.specs.Reads.{shard_items, all_items, NoneMeet, CanMeet, FrontMeets, FrontMeetsOne}
+use Rattle.cr_shard.specs.Reads.{all_items, NoneMeet, CanMeet, FrontMeets, FrontMeetsOne}
 use Rattle.cr_shard.proofs.Overlapping.{none_overlap, none_meet}
 use Rattle.cr_shard.proofs.Spreading.{distinct_none}
 

@@ -9,7 +9,7 @@ use Rattle.cr_model.specs.Books.{book_order}
 use Rattle.cr_model.specs.Checkpoints.{CanGoOn}
 use Rattle.cr_store.specs.Progress.{Progress}
 use Rattle.cr_store.specs.Written.{IsTextOfLeft}
-use Rattle.cr_shard.specs.Joins.{IsJoinedOf, all_found, all_jobs}
+use Rattle.cr_shard.specs.Joins.{all_found, all_jobs}
 use Rattle.cr_shard.specs.Reads.{CanJoin, IsJoinOf, without_found}
 use Rattle.cr_shard.proofs.JoinedFacts.{found_steps, goes_on_sorted, is_joined_of}
 

@@ -1,17 +1,17 @@
 -- The checks of a join, one after another.
-use Rattle.std.proofs.Common.{◌≡◌, ℕ, ◌<◌, List, [], length, get_or, inl, inr, refl, sym, ap, ◌∙◌, subst, arith}
+use Rattle.std.proofs.Common.{◌≡◌, ℕ, ◌<◌, List, [], length, get_or, inl, inr, sym, ap, ◌∙◌, subst, arith}
 use Rattle.std.specs.Prelude.{All}
-use Rattle.std.proofs.lemmas.List.{get_or-map, get_or_default}
+use Rattle.std.proofs.lemmas.List.{get_or-map}
 use Rattle.cr_model.specs.Problems.{ProblemParts}
 use Rattle.cr_model.specs.ProblemFiles.{ProblemFile}
 use Rattle.cr_model.specs.Checkpoints.{CanGoOn}
 use Rattle.cr_store.specs.Progress.{Progress}
 use Rattle.cr_shard.specs.declared.fault.JoinFault.{JoinFault}
 use Rattle.cr_shard.specs.declared.fault.JoinFault.TheVariants as fault
-use Rattle.cr_shard.specs.Joins.{IsRead, AreRead, AreOfOne}
+use Rattle.cr_shard.specs.Joins.{AreRead, AreOfOne}
 use Rattle.cr_shard.specs.JoinFaults.{AreOneFile, HasBodies, HasShards, IsJoin, FirstJoinFault, bytes_at}
 use Rattle.cr_shard.specs.Reads.{IsHeld, IsJoinOf, IsUnjoinable, AreRefused, OrNoMemory, CanMeet}
-use Rattle.cr_shard.proofs.JoinedFacts.{read_at, read_many, read_can_meet}
+use Rattle.cr_shard.proofs.JoinedFacts.{read_at, read_many}
 
 -- what the law on problem files says
 abbrev pub OneProblem : Type 0

@@ -1,5 +1,5 @@
 -- What shards that do not overlap make together: a search can go on from it, and it covers what they cover.
-use Rattle.std.proofs.Common.{◌≡◌, ℕ, suc, zero, ◌+◌, ◌<◌, ◌⊎◌, ◌↔◌, Bool, true, false, nat_eq, List, [], ◌∷◌, ◌++◌, length, get_or, inl, inr, refl, sym, ap, ap₂, ◌∙◌, subst, arith}
+use Rattle.std.proofs.Common.{◌≡◌, ℕ, suc, zero, ◌+◌, ◌<◌, ◌↔◌, Bool, true, false, nat_eq, List, [], ◌∷◌, ◌++◌, length, get_or, inl, inr, refl, sym, ap, ap₂, ◌∙◌, subst, arith}
 use Rattle.std.specs.Prelude.{Contains, All, flat_map}
 use Rattle.std.specs.Cmp.Lexicographic.{slice_cmp, pointwise}
 use Rattle.std.specs.List.{IsDistinct}
@@ -17,7 +17,7 @@ use Rattle.cr_model.specs.Problems.{ProblemParts}
 use Rattle.cr_model.specs.Callings.{HasSteps, length_of}
 use Rattle.cr_model.specs.ProblemFiles.{ProblemFile}
 use Rattle.cr_model.specs.Touches.{Kept}
-use Rattle.cr_model.specs.Nodes.{is_above, IsAbove, IsValid, Covers, Independent}
+use Rattle.cr_model.specs.Nodes.{is_above, IsValid, Covers, Independent}
 use Rattle.cr_model.specs.Books.{book_order, IsBook}
 use Rattle.cr_model.specs.Checkpoints.{CanGoOn, CheckFile, checkpoint_text, nodes_of_jobs}
 use Rattle.cr_model.proofs.BookExists.{book_order_total}
@@ -25,9 +25,9 @@ use Rattle.cr_model.proofs.Rotations.{same_when_equal}
 use Rattle.cr_model.proofs.InOrder.{none_held}
 use Rattle.cr_model.proofs.Listed.{all_from_held}
 use Rattle.cr_store.specs.Progress.{Progress}
-use Rattle.cr_shard.specs.Joins.{IsRead, AreRead, AreOfOne, IsJoinedOf, all_found, all_jobs, nodes_of, shards_overlap, NoneOverlap}
+use Rattle.cr_shard.specs.Joins.{IsRead, AreRead, AreOfOne, IsJoinedOf, all_found, all_jobs, nodes_of, NoneOverlap}
 use Rattle.cr_shard.specs.Reads.{CanMeet}
-use Rattle.cr_shard.proofs.Apart.{alike, NoneAbove, nodes_distinct, above_none, independent_from}
+use Rattle.cr_shard.proofs.Apart.{alike, nodes_distinct, above_none, independent_from}
 use Rattle.cr_shard.proofs.Meeting.{same_words, words_same}
 use Rattle.cr_shard.proofs.Overlapping.{differ_in_order, Apart, apart_parts}
 use Rattle.cr_shard.proofs.Spreading.{held_all, flat_held, held_flat, spread_from}

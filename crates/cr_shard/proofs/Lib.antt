@@ -16,3 +16,7 @@ pub mod Sorting
 pub mod SomeBlock
 pub mod SomeJoin
 pub mod OtherForms
+pub mod Hashing
+pub mod Seen
+pub mod DealtLines
+pub mod ShardPieces

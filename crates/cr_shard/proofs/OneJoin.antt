@@ -1,22 +1,19 @@
 -- A text has one joined text or one first fault at most, and never both.
-use Rattle.std.proofs.Common.{◌≡◌, ◌≢◌, ℕ, suc, zero, ◌+◌, ◌-◌, ◌^◌, ◌<◌, ◌≤◌, ◌⊎◌, ◌↔◌, true, false, List, [], ◌∷◌, ◌++◌, length, get_or, take, drop, inl, inr, refl, sym, ap, ap₂, ◌∙◌, subst, arith, length-append, append_assoc, append-nil}
-use Rattle.std.specs.Prelude.{Contains, All, codes, Result, Ok, Err, MatchResult}
-use Rattle.std.specs.List.{AllZip}
-use Rattle.std.specs.List.Sorted.{IsPermutation}
+use Rattle.std.proofs.Common.{◌≡◌, ℕ, suc, zero, ◌+◌, ◌^◌, ◌<◌, ◌⊎◌, true, List, [], ◌∷◌, ◌++◌, length, get_or, take, drop, inl, inr, refl, sym, ap, ap₂, ◌∙◌, subst, arith, length-append, append_assoc, append-nil}
+use Rattle.std.specs.Prelude.{All, codes, Result, Ok, Err, MatchResult}
 use Rattle.std.proofs.lemmas.Bool.{true≢false, cases_order}
-use Rattle.std.proofs.lemmas.List.{append_cancel_left, get_or-take, length-take-le, take-take}
+use Rattle.std.proofs.lemmas.List.{append_cancel_left, get_or-take, length-take-le}
 use Rattle.std.proofs.lemmas.List.Elements.{All-head, All-tail}
 use Rattle.std.proofs.lemmas.List.Sorted.{Contains-permutation, IsPermutation-sym}
 use Rattle.std.proofs.Math.Seq.{drop-append_seam, take-append_seam}
 use Rattle.cr_model.specs.Problems.{ProblemParts}
 use Rattle.cr_model.specs.Checkpoints.{number_line, CheckFile, checkpoint_text}
-use Rattle.cr_model.specs.Books.{book_order}
 use Rattle.cr_model.proofs.BookExists.{book_order_total}
 use Rattle.cr_model.proofs.InOrder.{same_from_sorted}
 use Rattle.cr_store.specs.declared.blocks.Next.{Next}
 use Rattle.cr_store.specs.declared.blocks.Next.TheVariants as next
 use Rattle.cr_store.specs.declared.fault.CheckFault.{CheckFault}
-use Rattle.cr_store.specs.Blocks.{block, blocks, IsBody, Begins, IsNext, IsTorn}
+use Rattle.cr_store.specs.Blocks.{block, blocks, IsBody, Begins, IsNext}
 use Rattle.cr_store.specs.Faults.{FirstCheckFault}
 use Rattle.cr_store.specs.Progress.{Progress}
 use Rattle.cr_shard.specs.declared.fault.JoinFault.{JoinFault}

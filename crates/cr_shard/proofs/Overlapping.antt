@@ -1,14 +1,13 @@
 -- Shards overlap exactly where two of their items meet.
-use Rattle.std.proofs.Common.{◌≡◌, ◌≢◌, ℕ, ◌+◌, ◌<◌, Bool, true, false, ◌||◌, nat_eq, List, [], ◌∷◌, ◌++◌, length, get_or, map, inl, inr, refl, sym, ap, ap₂, ◌∙◌, subst, arith}
-use Rattle.std.specs.Prelude.{Contains, All, nat_abs}
+use Rattle.std.proofs.Common.{◌≡◌, ◌≢◌, ℕ, ◌<◌, false, ◌||◌, nat_eq, List, [], length, get_or, map, inl, inr, refl, sym, ap, ap₂, ◌∙◌, subst, arith}
+use Rattle.std.specs.Prelude.{Contains, nat_abs}
 use Rattle.std.specs.Cmp.Lexicographic.{pointwise}
-use Rattle.std.specs.List.{IsDistinct, list_any}
 use Rattle.std.specs.List.Sorted.{IsStrictlySortedBy}
 use Rattle.std.specs.Ordering.{ordering_reverse}
 use Rattle.std.specs.declared.cmp.Ordering.TheVariants.{Less, Greater}
 use Rattle.std.proofs.lemmas.Bool.{true≢false, or_parts, or_from, false_from_ne_true}
-use Rattle.std.proofs.lemmas.List.{get_or_default, get_or-map, length-map}
-use Rattle.std.proofs.lemmas.List.Elements.{Contains-append_left, Contains-append_right, Contains-append_cases, Contains-get_or}
+use Rattle.std.proofs.lemmas.List.{get_or-map, length-map}
+use Rattle.std.proofs.lemmas.List.Elements.{Contains-append_left, Contains-append_right, Contains-append_cases}
 use Rattle.std.proofs.lemmas.Map.Keys.{IsDistinct-from_apart, apart_from_distinct, Less-from_sorted}
 use Rattle.cr_model.specs.Problems.{ProblemParts}
 use Rattle.cr_model.specs.Queries.{repeated}
@@ -24,7 +23,7 @@ use Rattle.cr_shard.specs.Joins.{nodes_of, share_a_touch, has_above, has_before,
 use Rattle.cr_shard.specs.Reads.{meet, shard_items, all_items, NoneMeet, CanMeet}
 use Rattle.cr_shard.proofs.Apart.{alike, nodes_distinct, above_none}
 use Rattle.cr_shard.proofs.Meeting.{same_words, words_same}
-use Rattle.cr_shard.proofs.Spreading.{no_pair, pair_none, map_held, held_map, held_all, distinct_joined, Crossing, spread_from, spread_cross}
+use Rattle.cr_shard.proofs.Spreading.{no_pair, pair_none, map_held, held_map, held_all, distinct_joined, spread_from, spread_cross}
 
 -- touches in strict order differ
 pub differ_in_order : (p : ProblemParts) (found : List (List ℕ)) → IsStrictlySortedBy (book_order p) found → (i j : ℕ) → i < j → j < length found

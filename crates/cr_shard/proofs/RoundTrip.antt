@@ -1,6 +1,6 @@
 -- A search that is cut, searched shard by shard and joined again has the book of the whole.
-use Rattle.std.proofs.Common.{◌≡◌, ℕ, suc, zero, ◌+◌, ◌^◌, ◌<◌, ◌↔◌, List, [], ◌∷◌, length, get_or, inl, inr, refl, sym, ap, ◌∙◌, subst, arith}
-use Rattle.std.specs.Prelude.{Contains, All}
+use Rattle.std.proofs.Common.{◌≡◌, ℕ, suc, zero, ◌^◌, ◌<◌, ◌↔◌, List, [], ◌∷◌, length, get_or, inl, refl, sym, ◌∙◌, subst, arith}
+use Rattle.std.specs.Prelude.{All}
 use Rattle.std.specs.List.{AllZip}
 use Rattle.std.specs.List.Sorted.{IsPermutation}
 use Rattle.std.proofs.lemmas.List.{get_or_default}
@@ -15,7 +15,7 @@ use Rattle.cr_model.specs.Inputs.{Input, SameCover}
 use Rattle.cr_store.specs.Chains.{AreSame}
 use Rattle.cr_store.specs.Progress.{Progress}
 use Rattle.cr_shard.specs.Deals.{dealt_found, dealt_nodes, as_jobs, shard_text, IsDealt}
-use Rattle.cr_shard.specs.Joins.{IsRead, AreRead, AreOfOne, IsJoinedOf, NoneOverlap, all_jobs, nodes_of}
+use Rattle.cr_shard.specs.Joins.{IsRead, AreRead, IsJoinedOf, NoneOverlap, all_jobs, nodes_of}
 use Rattle.cr_shard.proofs.Shards.{nodes_as_jobs, shard_is_checkpoint, shard_covers, covered_once}
 use Rattle.cr_shard.proofs.JoinedFacts.{read_many, covered_by_some, joined_covers}
 

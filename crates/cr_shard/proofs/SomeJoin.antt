@@ -1,9 +1,9 @@
 -- Each text of blocks is joined, or has a first fault.
-use Rattle.std.proofs.Common.{◌≡◌, ◌≢◌, ℕ, zero, suc, ◌+◌, ◌^◌, ◌<◌, ◌≤◌, ◌⊎◌, inl, inr, Bool, true, false, List, [], ◌∷◌, ◌++◌, length, get_or, take, drop, refl, sym, ap, ◌∙◌, subst, arith, length-append, append_assoc, append-nil}
-use Rattle.std.specs.Prelude.{All, codes, flat_map}
+use Rattle.std.proofs.Common.{◌≡◌, ℕ, zero, suc, ◌+◌, ◌<◌, ◌≤◌, ◌⊎◌, inl, inr, Bool, true, false, List, [], ◌∷◌, ◌++◌, length, get_or, take, drop, refl, sym, ap, ◌∙◌, arith, length-append, append_assoc, append-nil}
+use Rattle.std.specs.Prelude.{All, codes}
 use Rattle.std.proofs.lemmas.Bool.{cases_lt, cases_eq, cases_Bool}
 use Rattle.std.proofs.lemmas.Grind.{flat_map-append}
-use Rattle.std.proofs.lemmas.List.{get_or_default, get_or-map}
+use Rattle.std.proofs.lemmas.List.{get_or_default}
 use Rattle.std.proofs.lemmas.List.Elements.{All-nil, All-cons, All-append}
 use Rattle.std.proofs.Math.Seq.{drop-append_seam}
 use Rattle.cr_model.specs.Problems.{ProblemParts}
@@ -18,8 +18,8 @@ use Rattle.cr_store.specs.Faults.{FirstCheckFault}
 use Rattle.cr_store.specs.Progress.{Progress}
 use Rattle.cr_shard.specs.declared.fault.JoinFault.{JoinFault}
 use Rattle.cr_shard.specs.declared.fault.JoinFault.TheVariants as fault
-use Rattle.cr_shard.specs.Joins.{IsRead, AreRead, AreOfOne, IsJoinedOf, NoneOverlap, all_found, all_jobs, shards_overlap}
-use Rattle.cr_shard.specs.JoinFaults.{AreBodies, HasBodies, HasShards, IsNoBlock, IsNoCheckpoint, IsOtherProblem, DifferFirstAt, IsOverlap, AreOneFile, IsJoin, FirstJoinFault, bytes_at, most_shards}
+use Rattle.cr_shard.specs.Joins.{AreRead, AreOfOne, NoneOverlap, all_found, all_jobs, shards_overlap}
+use Rattle.cr_shard.specs.JoinFaults.{AreBodies, HasBodies, IsNoBlock, IsNoCheckpoint, IsOtherProblem, DifferFirstAt, IsOverlap, AreOneFile, IsJoin, FirstJoinFault, bytes_at, most_shards}
 use Rattle.cr_shard.proofs.JoinedFacts.{read_many, read_can_meet, is_joined_of}
 use Rattle.cr_shard.proofs.JoinChecks.{OneProblem, of_one_file, shards_held}
 use Rattle.cr_shard.proofs.Sorting.{sorted_of}

@@ -107,8 +107,8 @@ fn add_nodes<'a>(words: &mut Vec<Word<'a>>, nodes: &'a [Node]) -> Result<(), NoM
     Ok(())
 }
 
-// The first of the equal words of a touch.
-fn part_of<'a>(problem: &Problem, calling: &'a Calling) -> &'a [u8]
+/// The first of the equal words of a touch.
+pub fn part_of<'a>(problem: &Problem, calling: &'a Calling) -> &'a [u8]
     ensures { result.now ≡ part_of problem.now calling.now }
 {
     let steps = calling.steps();

@@ -2,7 +2,7 @@
 
 ghost use Rattle.std.specs.Prelude.{◌≤◌};
 
-use cr_shard::{JoinFault, cut_blocks, join_blocks};
+use cr_shard::{JoinFault, cut_blocks, cut_text, join_blocks};
 use cr_store::{CheckFault, Checkpoint, put_block, read_checkpoint};
 use std::alloc::Global;
 use std::test::Fail;
@@ -47,8 +47,8 @@ fn blocks_of(alloc: Global, first: &str, second: &str, third: &str) -> Result<Ve
     Ok(text)
 }
 
-// A checkpoint of Plain Bob Doubles, cut.
-fn cut_text(alloc: Global, text: &[u8], into: u32) -> Result<Vec<u8>, CheckFault>
+// A checkpoint, read and cut.
+fn cut_read(alloc: Global, text: &[u8], into: u32) -> Result<Vec<u8>, CheckFault>
     requires { 1 ≤ into }
 {
     let Checkpoint {
@@ -84,7 +84,7 @@ fn cut_is(alloc: Global, case: &Cut) -> Result<bool, Fail> {
     if case.1 < 1 {
         return Ok(false);
     }
-    match cut_text(alloc, &text, case.1) {
+    match cut_read(alloc, &text, case.1) {
         Ok(blocks) => Ok(blocks.as_slice() == wanted.as_slice()),
         Err(_) => Ok(false),
     }
@@ -98,6 +98,122 @@ fn nodes_are_dealt_in_turn(rt: HostRuntime) -> Result<(), Fail> {
         }
     }
     Ok(())
+}
+
+// Sixteen nodes of eight leads, of which none begins as the one before it.
+const NODES: &str =
+    "0 pppppppp\n0 bppppppp\n0 pppppppb\n0 bppppppb\n0 ppppppbp\n0 bpppppbp\n0 ppppppbb\n0 bpppppbb\n0 pppppbpp\n0 bppppbpp\n0 pppppbpb\n0 bppppbpb\n0 pppppbbp\n0 bppppbbp\n0 pppppbbb\n0 bppppbbb\n";
+
+// The last lines of a checkpoint before and behind these nodes, and those of its two shards; none where it is not cut as
+// it is read.
+type Read = (
+    &'static str,
+    &'static str,
+    Option<(&'static str, &'static str)>,
+);
+
+const READS: &[Read] = &[
+    (
+        "found 0\njobs 1\njob 16\n",
+        "end\n",
+        Some((
+            "found 0\njobs 1\njob 8\n0 pppppppp\n7 b\n6 bp\n7 b\n5 bpp\n7 b\n6 bp\n7 b\nend\n",
+            "found 0\njobs 1\njob 8\n0 bppppppp\n7 b\n6 bp\n7 b\n5 bpp\n7 b\n6 bp\n7 b\nend\n",
+        )),
+    ),
+    // Another job, and a found touch.
+    (
+        "found 1\n20 bb\njobs 2\njob 16\n",
+        "job 1\n0 pb\nend\n",
+        Some((
+            "found 1\n20 bb\njobs 1\njob 9\n0 pppppppp\n7 b\n6 bp\n7 b\n5 bpp\n7 b\n6 bp\n7 b\n1 b\nend\n",
+            "found 0\njobs 1\njob 8\n0 bppppppp\n7 b\n6 bp\n7 b\n5 bpp\n7 b\n6 bp\n7 b\nend\n",
+        )),
+    ),
+    // The same node twice, one above another, one below another, and one above a found touch.
+    ("found 0\njobs 1\njob 17\n", "8 -\nend\n", None),
+    ("found 0\njobs 1\njob 17\n", "0 pppppppp\nend\n", None),
+    ("found 0\njobs 1\njob 17\n", "0 ppppppb\nend\n", None),
+    ("found 0\njobs 1\njob 17\n", "0 ppppppppp\nend\n", None),
+    ("found 1\n20 bb\njobs 1\njob 17\n", "1 b\nend\n", None),
+    // One longer than a part may be, and one that leaves out too little.
+    ("found 0\njobs 1\njob 17\n", "0 bbbbbbbbbbbbb\nend\n", None),
+    ("found 0\njobs 1\njob 17\n", "0 bb\nend\n", None),
+    // Too few lines, an empty job, something behind the end, and no end.
+    ("found 0\njobs 1\njob 17\n", "end\n", None),
+    ("found 0\njobs 2\njob 16\n", "job 0\nend\n", None),
+    ("found 0\njobs 1\njob 16\n", "end\nend\n", None),
+    ("found 0\njobs 1\njob 16\n", "", None),
+    // Found touches out of order, and one that is not kept.
+    ("found 2\n40 pppp\n20 bb\njobs 1\njob 16\n", "end\n", None),
+    ("found 1\n10 b\njobs 1\njob 16\n", "end\n", None),
+];
+
+// A text of pieces.
+fn text_of(
+    alloc: Global,
+    head: &str,
+    before: &str,
+    nodes: &str,
+    behind: &str,
+) -> Result<Vec<u8>, Fail> {
+    let mut text = head.as_bytes().to_vec(alloc)?;
+    for piece in [before, nodes, behind] {
+        text.extend_from_slice(piece.as_bytes())?;
+    }
+    Ok(text)
+}
+
+// The pieces of a cut, joined.
+fn joined(alloc: Global, pieces: &[Vec<u8>]) -> Result<Vec<u8>, Fail> {
+    let mut text = Vec::new(alloc);
+    for piece in pieces {
+        text.extend_from_slice(piece)?;
+    }
+    Ok(text)
+}
+
+fn read_is(alloc: Global, case: &Read) -> Result<bool, Fail> {
+    let text = text_of(alloc, DOUBLES, case.0, NODES, case.1)?;
+    match (cut_text(alloc, &text, 2), case.2) {
+        (Ok(Some(pieces)), Some((first, second))) => {
+            let wanted = blocks_of(alloc, first, second, "")?;
+            Ok(joined(alloc, &pieces)?.as_slice() == wanted.as_slice())
+        }
+        (Ok(None), None) => Ok(true),
+        _ => Ok(false),
+    }
+}
+
+#[test]
+fn a_text_is_cut_as_it_is_read(rt: HostRuntime) -> Result<(), Fail> {
+    for case in READS {
+        if !read_is(rt.alloc(), case)? {
+            return Err(Fail::from(case.1));
+        }
+    }
+    Ok(())
+}
+
+// Whether a text is not cut as it is read.
+fn is_left(alloc: Global, text: &[u8]) -> bool {
+    match cut_text(alloc, text, 2) {
+        Ok(None) => true,
+        _ => false,
+    }
+}
+
+#[test]
+fn what_has_few_nodes_is_read_first(rt: HostRuntime) -> Result<(), Fail> {
+    let few = text_of(rt.alloc(), DOUBLES, BOTH, "", "")?;
+    if is_left(rt.alloc(), &few)
+        && is_left(rt.alloc(), b"stage = 4\n")
+        && is_left(rt.alloc(), b"")
+    {
+        Ok(())
+    } else {
+        Err(Fail::from("few nodes"))
+    }
 }
 
 // The number of a fault, its numbers, and the number of a fault inside.

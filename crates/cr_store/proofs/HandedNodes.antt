@@ -11,7 +11,7 @@ use Rattle.cr_store.proofs.LineReads.{last_joined}
 
 module _ (p : ProblemParts) where
   -- the lines of one node more
-  node_lines_more : (before : List ℕ) (job : List (List ℕ)) (node : List ℕ)
+  pub node_lines_more : (before : List ℕ) (job : List (List ℕ)) (node : List ℕ)
       → node_lines p 2 before (job ++ node ∷ []) ≡ node_lines p 2 before job ++ node_line p 2 (last_node before job) node
   node_lines_more before [] node = append-nil (node_line p 2 before node)
   node_lines_more before (first ∷ job) node =

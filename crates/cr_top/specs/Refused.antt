@@ -70,13 +70,17 @@ abbrev pub ReadsInput : {S : Type 0} → Reading S → Result (Vec ℕ Global) R
 ReadsInput source (Ok input) = WasRead source input.items
 ReadsInput source (Err why) = GetsNoBytes source (status_of (Err why))
 
+-- an input says nothing for this reason, or there was not enough memory
+abbrev pub IsUnstarted : List ℕ → Refusal → Type 0
+IsUnstarted input (refusal.Problem fault) = IsNoProblem input fault
+IsUnstarted input (refusal.Checkpoint fault) = IsNoCheckpoint input fault
+IsUnstarted input refusal.NoMemory = ⊤
+IsUnstarted input why = ⊥
+
 -- what an input says, or why it is none
 abbrev pub StartsFrom : List ℕ → Result Start Refusal → Type 0
 StartsFrom input (Ok start) = IsStart input start.bytes.items start.problem start.left.found.items (lists start.left.jobs.items)
-StartsFrom input (Err (refusal.Problem fault)) = IsNoProblem input fault
-StartsFrom input (Err (refusal.Checkpoint fault)) = IsNoCheckpoint input fault
-StartsFrom input (Err refusal.NoMemory) = ⊤
-StartsFrom input (Err why) = ⊥
+StartsFrom input (Err why) = IsUnstarted input why
 
 -- the search of an input that was read, or why there is none
 abbrev pub Prepares : {S : Type 0} → Reading S → Result Prepared Refusal → Type 0

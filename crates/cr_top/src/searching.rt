@@ -119,8 +119,8 @@ fn checkpoint_of(
     write_parts(alloc, problem, bytes, &left.found, &left.jobs)
 }
 
-// A text as one piece.
-fn one_piece(alloc: Global, text: Vec<u8>) -> Result<Vec<Vec<u8>>, NoMemory>
+/// A text as one piece.
+pub fn one_piece(alloc: Global, text: Vec<u8>) -> Result<Vec<Vec<u8>>, NoMemory>
     ensures { IfOk result (λ pieces. pieces_joined pieces.items ≡ text.items) }
 {
     let mut pieces = Vec::with_capacity(alloc, 1)?;

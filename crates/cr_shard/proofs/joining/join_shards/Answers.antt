@@ -1,6 +1,5 @@
-use Rattle.std.proofs.Common.{◌≡◌, ap, ◌∙◌}
+use Rattle.std.proofs.Common.{ap, ◌∙◌}
 use Rattle.cr_store.specs.Written.{jobs_seen}
-use Rattle.cr_shard.specs.Joins.{all_jobs}
 use Rattle.cr_shard.proofs.Emptied.{first_file, first_touches, first_goes_on, rest_joined}
 use Rattle.cr_shard.proofs.joining.join_shards.Goals as goal
 
