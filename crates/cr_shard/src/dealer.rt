@@ -6,12 +6,16 @@ ghost use Rattle.cr_model.specs.Callings.{HasSteps};
 ghost use Rattle.cr_shard.specs.Dealers.{AreLinesOf, AreDealt, IsDealing};
 
 use crate::hashes::Known;
+use crate::survey::{Survey, after};
 use crate::way::Way;
 use cr_model::Problem;
 use cr_node::Node;
 use cr_row::NoMemory;
 use cr_store::{NodeSink, write_node};
 use std::alloc::Global;
+
+/// The last line of a checkpoint.
+pub const END: &[u8] = b"end\n";
 
 /// The lines of some nodes in a checkpoint, and how many there are.
 #[derive(Drop)]
@@ -23,15 +27,15 @@ pub struct NodeLines {
 }
 
 impl NodeLines {
-    // The lines of no node. They take no memory.
-    fn new(alloc: Global) -> NodeLines
-        ensures { (p : ProblemParts) → AreLinesOf p [] result }
+    // The lines of no node, with room for so many bytes. Err where no memory is left.
+    fn with_room(alloc: Global, room: usize) -> Result<NodeLines, NoMemory>
+        ensures { IfOk result (λ lines. (p : ProblemParts) → AreLinesOf p [] lines) }
     {
-        NodeLines {
-            text: Vec::new(alloc),
+        Ok(NodeLines {
+            text: Vec::with_capacity(alloc, room)?,
             nodes: 0,
             last: Node::root(alloc),
-        }
+        })
     }
 
     // Appends the line of a node. False where the nodes are more than a number can tell.
@@ -63,14 +67,15 @@ pub struct Shards {
 }
 
 impl Shards {
-    // So many shards without nodes. Err where no memory is left.
-    fn new(alloc: Global, into: u32) -> Result<Shards, NoMemory>
+    // So many shards without nodes, with the room that they need. Err where no memory is left.
+    fn new(alloc: Global, into: u32, survey: &Survey) -> Result<Shards, NoMemory>
         requires { 0 < into }
         ensures { IfOk result (λ shards. (p : ProblemParts) → AreDealt p [] shards) }
     {
         let mut lines = Vec::with_capacity(alloc, into as usize)?;
-        for _shard in 0..into {
-            lines.push(NodeLines::new(alloc))?;
+        for shard in 0..into {
+            let room = survey.size_of(shard as usize).saturating_add(END.len());
+            lines.push(NodeLines::with_room(alloc, room)?)?;
         }
         Ok(Shards { lines, next: 0 })
     }
@@ -85,7 +90,7 @@ impl Shards {
         if at >= number || !self.lines[at].add(alloc, problem, node)? {
             return Ok(false);
         }
-        self.next = if at + 1 == number { 0 } else { at + 1 };
+        self.next = after(at, number);
         Ok(true)
     }
 }
@@ -102,11 +107,11 @@ pub struct Dealer {
 
 impl Dealer {
     /// A dealer to so many shards of nodes with these hashes, none of which was come to. Err where no memory is left.
-    pub fn new(alloc: Global, known: Known, into: u32) -> Result<Dealer, NoMemory>
+    pub fn new(alloc: Global, known: Known, into: u32, survey: &Survey) -> Result<Dealer, NoMemory>
         requires { 0 < into }
         ensures { IfOk result (λ dealer. (p : ProblemParts) → IsDealing p dealer []) }
     {
-        let shards = Shards::new(alloc, into)?;
+        let shards = Shards::new(alloc, into, survey)?;
         Ok(Dealer {
             known,
             way: Way::new(alloc),

@@ -1,12 +1,9 @@
-//! Hashes of nodes: of all nodes of a checkpoint, and which of them were come to.
+//! Hashes of nodes, and which of the nodes were come to.
 
 ghost use Rattle.std.specs.Prelude.{◌≡◌, ◌<◌, ⊤, length, get_or, IsTrue, IsFalse, IfSome, IfNone};
 ghost use Rattle.cr_shard.specs.Hashes.{hash_after as after_step, hash_of as of_steps, Rise, IsMissing, ComesTo};
 
-use cr_model::Problem;
-use cr_node::Node;
 use cr_row::NoMemory;
-use cr_store::NodeSink;
 use std::alloc::Global;
 use std::marker::Model;
 
@@ -20,8 +17,8 @@ pub fn hash_after(hash: u64, step: u8) -> u64
     hash.wrapping_mul(SPREAD).wrapping_add(u64::from(step) + 1)
 }
 
-// The hash of steps.
-fn hash_of(steps: &[u8]) -> u64
+/// The hash of steps.
+pub fn hash_of(steps: &[u8]) -> u64
     ensures { result ≡ of_steps steps.now }
 {
     let mut hash = 0;
@@ -29,21 +26,6 @@ fn hash_of(steps: &[u8]) -> u64
         hash = hash_after(hash, *step);
     }
     hash
-}
-
-/// The hashes of the nodes that are taken.
-#[derive(Drop)]
-pub struct Hashes {
-    pub list: Vec<u64>,
-}
-
-impl NodeSink for Hashes {
-    ghost took = { λ _ _ _. ⊤ };
-
-    fn take(&mut self, _alloc: Global, _problem: &Problem, node: &Node) -> Result<bool, NoMemory> {
-        self.list.push(hash_of(node.steps()))?;
-        Ok(true)
-    }
 }
 
 /// Different hashes, ascending, and which of their nodes were come to.

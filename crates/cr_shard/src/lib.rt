@@ -23,6 +23,7 @@ pub mod laws;
 mod overlap;
 mod pieces;
 mod problems;
+mod survey;
 mod text_cut;
 mod way;
 mod words;

@@ -9,7 +9,7 @@ ghost use Rattle.cr_store.specs.Written.{front_text, tail_text};
 ghost use Rattle.cr_shard.specs.Deals.{as_jobs, IsCut};
 ghost use Rattle.cr_shard.specs.Dealers.{AreLinesOf, HaveLines, job_head};
 
-use crate::dealer::NodeLines;
+use crate::dealer::{END, NodeLines};
 use cr_model::Problem;
 use cr_row::NoMemory;
 use cr_store::{write_count, write_front};
@@ -60,7 +60,7 @@ fn add_shard(
 {
     let head = head_of(alloc, front, lines.nodes)?;
     let mut text = mem::replace(&mut lines.text, Vec::new(alloc));
-    text.extend_from_slice(b"end\n")?;
+    text.extend_from_slice(END)?;
     let mut first = Vec::new(alloc);
     write_count(&mut first, b"block", head.len() as u64 + text.len() as u64)?;
     first.extend_from_slice(&head)?;

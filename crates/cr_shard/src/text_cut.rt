@@ -11,21 +11,27 @@ ghost use Rattle.cr_shard.specs.Hashes.{IsClear};
 ghost use Rattle.cr_shard.specs.Dealers.{AreClear, IsDealtText, IsTextCut};
 
 use crate::dealer::{Dealer, NodeLines};
-use crate::hashes::{Hashes, Known, hash_after};
+use crate::hashes::{Known, hash_after};
 use crate::pieces::pieces_of;
 use crate::problems::{file_of, problem_of};
+use crate::survey::Survey;
 use crate::words::{found_of, part_of};
 use cr_model::{Calling, Problem};
 use cr_row::NoMemory;
 use cr_store::{CheckFault, Checkpoint, each_node, read_checkpoint, write_front};
 use std::alloc::Global;
+use std::mem;
+
+// A list of nodes takes some 40 bytes for each. That is twice a line of so many.
+const SHORT: usize = 20;
 
 /// The shards of a checkpoint, as [`cut_blocks`](crate::cut_blocks) gives them, cut as its text is read, in pieces that
 /// follow one another.
 ///
 /// The nodes stay in the text: beside it and the shards a cut takes 9 bytes for each node. None says nothing of the text:
-/// it comes where that is no checkpoint of version 2, where the lines of its found touches are more than half of it, and
-/// where two nodes overlap or have one hash. Err where no memory is left.
+/// it comes where that is no checkpoint of version 2, where its found touches are more than half of it or its lines are
+/// long, so that a list of its nodes takes no more than twice the text, and where two nodes overlap or have one hash. Err
+/// where no memory is left.
 pub fn cut_text(alloc: Global, text: &[u8], into: u32) -> Result<Option<Vec<Vec<u8>>>, NoMemory>
     requires { 1 ≤ into }
     ensures { IfOk result (λ cut. IfSome cut (λ pieces. IsTextCut text.now into (pieces_joined pieces.items))) }
@@ -56,15 +62,21 @@ fn jobs_at(text: &[u8]) -> Option<usize>
     None
 }
 
-// What a checkpoint says before its jobs, as a checkpoint without jobs. None where it is none, or where that is more than
-// half of the text.
+// Whether the lines of a text have fewer than so many bytes on the whole.
+fn are_short(text: &[u8]) -> bool {
+    let lines = text.iter().filter(|byte| **byte == b'\n').count();
+    lines.saturating_mul(SHORT) > text.len()
+}
+
+// What a checkpoint says before its jobs, as a checkpoint without jobs. None where it is none, or where a cut that reads its
+// nodes from the text is not worth while.
 fn head_of(alloc: Global, text: &[u8]) -> Result<Option<Checkpoint>, NoMemory>
     ensures { IfOk result (λ head. IfSome head (λ c. (body : List ℕ) × IsRead body c)) }
 {
     let Some(place) = jobs_at(text) else {
         return Ok(None);
     };
-    if place > text.len() / 2 {
+    if place > text.len() / 2 || !are_short(&text[place..]) {
         return Ok(None);
     }
     let mut front = text[..place].to_vec(alloc)?;
@@ -123,10 +135,15 @@ fn dealt(
     requires ascending { IsStrictlySortedBy (book_order problem.now) found.now }
     ensures { IfOk result (λ dealt. IfSome dealt (λ shards. IsDealtText problem.now found.now text.now into shards.items)) }
 {
-    let Some(known) = known_of(alloc, problem, text)? else {
+    let mut survey = Survey::new(alloc, into)?;
+    if !each_node(alloc, problem, text, &mut survey)? {
+        return Ok(None);
+    }
+    let hashes = mem::replace(&mut survey.hashes, Vec::new(alloc));
+    let Some(known) = Known::new(alloc, hashes)? else {
         return Ok(None);
     };
-    let mut dealer = Dealer::new(alloc, known, into)?;
+    let mut dealer = Dealer::new(alloc, known, into, &survey)?;
     if !each_node(alloc, problem, text, &mut dealer)? {
         return Ok(None);
     }
@@ -136,17 +153,6 @@ fn dealt(
     } else {
         Ok(None)
     }
-}
-
-// The hashes of the nodes of a text behind found touches. None where it is no such text, or two nodes have one hash.
-fn known_of(alloc: Global, problem: &Problem, text: &[u8]) -> Result<Option<Known>, NoMemory> {
-    let mut hashes = Hashes {
-        list: Vec::new(alloc),
-    };
-    if !each_node(alloc, problem, text, &mut hashes)? {
-        return Ok(None);
-    }
-    Known::new(alloc, hashes.list)
 }
 
 // Whether no node whose hash is known is above a found touch.

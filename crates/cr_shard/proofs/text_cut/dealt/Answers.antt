@@ -6,7 +6,7 @@ pub returns-then-len-into : goal.returns-then-len-into
 returns-then-len-into c =
     let p = c.args.problem.now in
     let found = c.args.found.now in
-    let handed = c.in_ok-each_node.ensures c.if-not-branch.false in
+    let handed = c.in_ok-each_node-2.ensures c.if-not-branch-2.false in
     let dealing = handed.took [] (c.in_ok-dealer.ensures p) in
     record {
       jobs = handed.jobs;

@@ -3,7 +3,6 @@ use Rattle.std.proofs.lemmas.List.{get_or_default}
 use Rattle.cr_shard.specs.Deals.{dealt_nodes}
 use Rattle.cr_shard.specs.Dealers.{AreLinesOf}
 use Rattle.cr_shard.proofs.DealtLines.{lines_more, next_more}
-use Rattle.cr_shard.proofs.dealer.Shards.deal.Goals.{then-at-number-2, else-at-number-2}
 use Rattle.cr_shard.proofs.dealer.Shards.deal.Goals as goal
 
 pub returns : goal.returns
@@ -19,11 +18,7 @@ returns c = λ _ nodes dealt.
     let adds : AreLinesOf p here (get_or lines next new) → AreLinesOf p (here ++ node ∷ []) new =
     λ are. c.in_ok-add.ensures c.if-not-branch.false here (subst (AreLinesOf p here) read are) in
     record {
-      next_is = elim c.if-at-number-2.branch [
-        | then-at-number-2 w ↦ next_more p nodes node lines next new inside dealt.next_is dealt.each adds c.if-at-number-2.self (λ _. w.self-is)
-            (λ more. absurd (more (omega (arith, w.if-at-number-2.true, c.len-number.ensures))))
-        | else-at-number-2 w ↦ next_more p nodes node lines next new inside dealt.next_is dealt.each adds c.if-at-number-2.self
-            (λ end. absurd (w.if-at-number-2.false (omega (arith, end, c.len-number.ensures)))) (λ _. w.self-is)
-      ];
+      next_is = next_more p nodes node lines next new inside dealt.next_is dealt.each adds c.after-self.result
+          (λ end. c.after-self.ensures.last (omega (arith, end, c.len-number.ensures))) (λ more. c.after-self.ensures.others (λ end. more (omega (arith, end, c.len-number.ensures))));
       each = lines_more p nodes node lines next new inside dealt.next_is dealt.each adds;
     }

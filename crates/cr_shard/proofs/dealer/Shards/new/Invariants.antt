@@ -5,4 +5,4 @@ use Rattle.cr_shard.proofs.dealer.Shards.new.Given as goal
 
 -- so many shards without nodes
 abbrev pub invariant-loop-shard : goal.invariant-loop-shard
-invariant-loop-shard l = (length l.lines.items ≡ l._shard) × ((p : ProblemParts) → All (AreLinesOf p []) l.lines.items)
+invariant-loop-shard l = (length l.lines.items ≡ l.shard) × ((p : ProblemParts) → All (AreLinesOf p []) l.lines.items)
