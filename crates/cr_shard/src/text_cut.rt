@@ -29,8 +29,8 @@ const SHORT: usize = 20;
 /// follow one another.
 ///
 /// The nodes stay in the text: beside it and the shards a cut takes 9 bytes for each node. None says nothing of the text:
-/// it comes where that is no checkpoint of version 2, where its found touches are more than half of it or its lines are
-/// long, so that a list of its nodes takes no more than twice the text, and where two nodes overlap or have one hash. Err
+/// it comes where that is no checkpoint of version 2, where what stands before its jobs is more than three quarters of
+/// it or their lines are long, so that a list of its nodes takes no more than twice the text, and where two nodes overlap or have one hash. Err
 /// where no memory is left.
 pub fn cut_text(alloc: Global, text: &[u8], into: u32) -> Result<Option<Vec<Vec<u8>>>, NoMemory>
     requires { 1 ≤ into }
@@ -76,7 +76,7 @@ fn head_of(alloc: Global, text: &[u8]) -> Result<Option<Checkpoint>, NoMemory>
     let Some(place) = jobs_at(text) else {
         return Ok(None);
     };
-    if place > text.len() / 2 || !are_short(&text[place..]) {
+    if place > text.len() / 4 * 3 || !are_short(&text[place..]) {
         return Ok(None);
     }
     let mut front = text[..place].to_vec(alloc)?;
