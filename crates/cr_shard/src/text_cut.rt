@@ -28,10 +28,10 @@ const SHORT: usize = 20;
 /// The shards of a checkpoint, as [`cut_blocks`](crate::cut_blocks) gives them, cut as its text is read, in pieces that
 /// follow one another.
 ///
-/// The nodes stay in the text: beside it and the shards a cut takes 9 bytes for each node. None says nothing of the text:
-/// it comes where that is no checkpoint of version 2, where what stands before its jobs is more than three quarters of
-/// it or their lines are long, so that a list of its nodes takes no more than twice the text, and where two nodes overlap or have one hash. Err
-/// where no memory is left.
+/// The nodes stay in the text: beside it and the shards a cut takes 9 bytes for each node. None says nothing of the text.
+/// It comes where that is no checkpoint of version 2, where what stands before its jobs is more than three quarters of
+/// it, where its lines are so long that a list of its nodes takes no more than twice the text, and where two nodes
+/// overlap or have one hash. Err where no memory is left.
 pub fn cut_text(alloc: Global, text: &[u8], into: u32) -> Result<Option<Vec<Vec<u8>>>, NoMemory>
     requires { 1 ≤ into }
     ensures { IfOk result (λ cut. IfSome cut (λ pieces. IsTextCut text.now into (pieces_joined pieces.items))) }
