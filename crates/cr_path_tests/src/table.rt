@@ -131,7 +131,7 @@ fn heads_are_counted(rt: HostRuntime) -> Result<(), Fail> {
     Ok(())
 }
 
-// From nine bells on few rows of a lead tell it apart from others: of the twenty of Plain Bob Royal four or fewer. It has
+// From eight bells on few rows of a lead tell it apart from others: of the twenty of Plain Bob Royal four or fewer. It has
 // nine heads without a call.
 #[test]
 fn few_rows_tell_leads_apart(rt: HostRuntime) -> Result<(), Fail> {

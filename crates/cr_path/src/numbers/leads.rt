@@ -24,9 +24,9 @@ use cr_row::{NoMemory, Row, Stage};
 use std::alloc::Global;
 use std::marker::Model;
 
-// From how many bells on few rows of each lead are looked for. Below, there are so few heads that all rows may stand for
+// From how many bells on few rows of each lead are looked for. Below, there are so few rows that all of them may stand for
 // each other, which leaves fewer.
-const FEW_FROM: u8 = 9;
+const FEW_FROM: u8 = 8;
 
 /// The leads of a problem, and what is known of each before it is rung from a head.
 ///
@@ -149,7 +149,7 @@ impl<'a> Leads<'a> {
         power(stage, head, self.problem.parts()) == Row::rounds(stage)
     }
 
-    /// The rows that tell the leads apart: all of them, and from nine bells on few of each. Err where no memory is left.
+    /// The rows that tell the leads apart: all of them, and from eight bells on few of each. Err where no memory is left.
     pub fn telling_rows(&self, alloc: Global) -> Result<TellingRows, NoMemory>
         ensures { IfOk result (λ told. AreTelling (lead_table self.now) told) }
     {

@@ -98,7 +98,7 @@ impl Model for NumberTable {
 
 impl NumberTable {
     /// The numbers of a problem. None where they have no room: where there are more heads, or the leads from all heads take more
-    /// than its bytes, each 48 and 12 for each row that tells it (all of its rows, or from nine bells on few of them), or these
+    /// than its bytes, each 48 and 12 for each row that tells it (all of its rows, or from eight bells on few of them), or these
     /// rows are more than its rows, or than 4,194,304, or those of the lead with fewest, from all heads, more than twice as many;
     /// or where there are more than 67,108,864 numbers (256 MiB), of which each lead has as many as the least width that has
     /// room for the lead with most representative rows, or so many patterns that their numbers would take more than 16 MiB.
