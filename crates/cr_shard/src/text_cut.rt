@@ -22,8 +22,8 @@ use cr_store::{CheckFault, Checkpoint, each_node, read_checkpoint, write_front};
 use std::alloc::Global;
 use std::mem;
 
-// A list of nodes takes some 40 bytes for each. That is twice a line of so many.
-const SHORT: usize = 20;
+// A list of nodes takes up to 46 bytes for each. That is less than twice a line of so many.
+const SHORT: usize = 24;
 
 /// The shards of a checkpoint, as [`cut_blocks`](crate::cut_blocks) gives them, cut as its text is read, in pieces that
 /// follow one another.
