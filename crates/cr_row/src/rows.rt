@@ -67,6 +67,18 @@ impl Row {
         }
     }
 
+    /// The row of a stage with this key. It is for who keeps keys of rows: nothing is looked at.
+    pub fn with_key(stage: Stage, key: u64) -> Row
+        requires fits { key < 16 ^ stage }
+        requires row { IsRow (bells_of stage key) }
+        ensures { result ≡ bells_of stage key }
+    {
+        Row {
+            bits: key,
+            stage: stage.number(),
+        }
+    }
+
     /// The stage.
     pub fn stage(&self) -> Stage
         ensures is { result ≡ length self.now }

@@ -1,15 +1,9 @@
 -- A row is known by its key.
-use Rattle.std.proofs.Common.{◌≡◌, ℕ, zero, suc, ◌+◌, ◌-◌, ◌*◌, ◌/◌, ◌%◌, ◌<◌, ◌≤◌, List, [], ◌∷◌, ◌++◌, length, get_or, take, set, refl, ap, sym, ◌∙◌, subst, arith, append_assoc, append-nil}
+use Rattle.std.proofs.Common.{◌≡◌, ℕ, zero, suc, ◌+◌, ◌-◌, ◌*◌, ◌/◌, ◌%◌, ◌^◌, ◌<◌, ◌≤◌, max, List, [], ◌∷◌, ◌++◌, length, get_or, take, set, refl, ap, sym, ◌∙◌, subst, arith, append_assoc, append-nil}
 use Rattle.std.proofs.lemmas.List.{length-set, take_all, take_more_set}
 use Rattle.cr_row.specs.Rows.{IsRow}
 use Rattle.cr_row.specs.Packed.{bells_of, key_of, bells_length, AreBells}
 use Rattle.cr_rowset.specs.Keys.{greatest, stage_of, row_of, IsKey}
-
--- of the bells of more places the first ones are those of fewer
-pub fewer_bells : (n m key : ℕ) → n ≤ m → take n (bells_of m key) ≡ bells_of n key
-fewer_bells zero m key few = refl
-fewer_bells (suc n) zero key few = absurd (omega arith)
-fewer_bells (suc n) (suc m) key few = ap (λ bells. (key % 16 + 1) ∷ bells) (fewer_bells n m (key / 16) (omega arith))
 
 -- the key of a row gives its bells back
 bells_back : (row : List ℕ) → AreBells row → bells_of (length row) (key_of row) ≡ row
@@ -66,34 +60,36 @@ is_key row is least most =
       is = ap key_of back;
     }
 
--- a key on its way into bells: the first ones are read, and the others stand in the rest
-pub record IsReading (key rest place : ℕ) (bells : List ℕ) : Type 0 where
-  pub long : length bells ≡ 16
-  pub all : take place bells ++ bells_of (16 - place) rest ≡ bells_of 16 key
+-- a key has room in as many places as its row has bells
+fits_more : (key n b : ℕ) → key < 16 ^ n → 0 < b → b ≤ 16 → b - 1 + 16 * key < 16 ^ suc n
+fits_more key n b low some few = omega arith
 
-pub one_more_bell : (key rest place : ℕ) (bells : List ℕ) → place < 16 → IsReading key rest place bells →
-    IsReading key (rest / 16) (place + 1) (set bells place (rest % 16 + 1))
-one_more_bell key rest place bells low kept =
-    let more : 16 - place ≡ suc (16 - (place + 1)) = omega arith in
-    record {
-      long = length-set bells place (rest % 16 + 1) ∙ kept.long;
-      all = ap (λ (l : List ℕ). l ++ bells_of (16 - (place + 1)) (rest / 16)) (take_more_set bells place (rest % 16 + 1) (omega (arith, kept.long)))
-          ∙ append_assoc (take place bells) ((rest % 16 + 1) ∷ []) (bells_of (16 - (place + 1)) (rest / 16))
-          ∙ ap (λ n. take place bells ++ bells_of n rest) (sym more) ∙ kept.all;
-    }
+key_fits : (row : List ℕ) → AreBells row → key_of row < 16 ^ length row
+key_fits [] are = omega arith
+key_fits (b ∷ row) are =
+    let first = are 0 (omega arith) in
+    fits_more (key_of row) (length row) b (key_fits row (λ i low. are (suc i) (omega arith))) first.0 first.1
 
-pub all_bells : (key rest place : ℕ) (bells : List ℕ) → 16 ≤ place → IsReading key rest place bells → bells ≡ bells_of 16 key
-all_bells key rest place bells high kept =
-    let none : 16 - place ≡ 0 = omega arith in
-    sym (take_all place bells (omega (arith, kept.long))) ∙ sym (append-nil (take place bells))
-    ∙ ap (λ n. take place bells ++ bells_of n rest) (sym none) ∙ kept.all
-
--- the first of its 16 bells are those of the row
-pub first_bells : (key stage : ℕ) (bells : List ℕ) → IsKey key → bells ≡ bells_of 16 key → stage ≡ greatest bells → take stage bells ≡ row_of key
+pub key_is_low : (key : ℕ) → IsKey key → key < 16 ^ stage_of key
 unfolding row_of
-first_bells key stage bells is all most =
-    (λ i. take (most i) (all i)) ∙ ap (λ l. take (greatest l) (bells_of 16 key)) all ∙ fewer_bells (stage_of key) 16 key is.at_most
+key_is_low key is =
+    let stage = stage_of key in
+    let long : length (bells_of stage key) ≡ stage = bells_length stage key in
+    subst (λ n. key < 16 ^ n) long (subst (λ k. k < 16 ^ length (bells_of stage key)) is.is
+    (key_fits (bells_of stage key) (λ i low. let bell = is.row.in_range i low in (bell.0, omega (arith, bell.1, long, is.at_most)))))
 
--- the greatest of its 16 bells is the stage
-pub stage_is : (key stage : ℕ) (bells : List ℕ) → bells ≡ bells_of 16 key → stage ≡ greatest bells → (stage ≡ stage_of key) × (length bells ≡ 16)
-stage_is key stage bells all most = (most ∙ ap greatest all, ap length all ∙ bells_length 16 key)
+-- the row with a key has the bells of its stage
+pub row_is : (key : ℕ) → row_of key ≡ bells_of (stage_of key) key
+unfolding row_of
+row_is key = refl
+
+-- one place more was read
+pub one_bell_more : (most rest place stage : ℕ) → place < 16 → max most (greatest (bells_of (16 - place) rest)) ≡ stage
+    → max (max most (rest % 16 + 1)) (greatest (bells_of (16 - (place + 1)) (rest / 16))) ≡ stage
+one_bell_more most rest place stage low kept =
+    let more : 16 - place ≡ suc (16 - (place + 1)) = omega arith in
+    omega (arith, kept, ap (λ n. greatest (bells_of n rest)) more)
+
+-- and at the end the stage is the greatest
+pub only : (most stage : ℕ) → max most 0 ≡ stage → most ≡ stage
+only most stage is = omega arith

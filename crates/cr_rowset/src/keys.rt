@@ -1,10 +1,10 @@
 //! The keys of rows, and rows from their keys.
 
-ghost use Rattle.std.specs.Prelude.{◌≡◌, length};
-ghost use Rattle.cr_row.specs.Packed.{key_of, bells_of};
-ghost use Rattle.cr_rowset.specs.Keys.{greatest, row_of, IsKey};
+ghost use Rattle.std.specs.Prelude.{◌≡◌, max};
+ghost use Rattle.cr_row.specs.Packed.{key_of};
+ghost use Rattle.cr_rowset.specs.Keys.{row_of, stage_of, IsKey};
 
-use cr_row::Row;
+use cr_row::{Row, Stage};
 
 /// The key of a row.
 #[inline(always)]
@@ -23,34 +23,27 @@ pub fn row_of(key: u64) -> Row
     requires { IsKey key }
     ensures { result ≡ row_of key }
 {
-    let bells = bells_of(key);
-    let stage = usize::from(greatest(&bells));
-    match Row::of(&bells[..stage]) {
-        Some(row) => row,
+    match Stage::new(greatest_bell(key)) {
+        Some(stage) => Row::with_key(stage, key),
         None => unreachable!(),
     }
 }
 
-// The bells of 16 places: behind those of the row each is 1.
-fn bells_of(key: u64) -> [u8; 16]
-    ensures { result ≡ bells_of 16 key }
-{
-    let mut bells = [0; 16];
-    let mut rest = key;
-    for place in 0..16 {
-        bells[place] = (rest % 16) as u8 + 1;
-        rest /= 16;
-    }
-    bells
-}
-
-// The greatest of some bells, or 0 where there is none.
-fn greatest(bells: &[u8]) -> u8
-    ensures { result ≡ greatest bells.now }
+// The greatest bell of a key.
+fn greatest_bell(key: u64) -> u8
+    ensures { result ≡ stage_of key }
 {
     let mut most = 0;
-    for bell in bells {
-        most = most.max(*bell);
+    let mut rest = key;
+    for _place in 0..16_u32 {
+        most = greater(most, (rest % 16) as u8 + 1);
+        rest /= 16;
     }
     most
+}
+
+fn greater(one: u8, other: u8) -> u8
+    ensures { result ≡ max one other }
+{
+    if one < other { other } else { one }
 }
