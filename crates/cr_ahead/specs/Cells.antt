@@ -1,5 +1,5 @@
 -- Gains as a table keeps them, and gains of several sets of ways.
-use Rattle.std.specs.Prelude.{ℕ, ◌+◌, nat_le, cond, min, max, Option, Some, None}
+use Rattle.std.specs.Prelude.{◌≡◌, ℕ, ◌+◌, nat_le, cond, min, max, Option, Some, None}
 use Rattle.cr_ahead.specs.declared.gains.Gains.{Gains}
 
 -- in a cell a least gain above the greatest says that there is no way
@@ -7,8 +7,12 @@ abbrev pub told_by : Gains → Option Gains
 told_by cell = cond (nat_le cell.least cell.greatest) (Some cell) None
 
 abbrev pub cell_of : Option Gains → Gains
-cell_of None = record { least = 1; greatest = 0 }
+cell_of None = record { least = 4294967295; greatest = 0 }
 cell_of (Some gains) = gains
+
+-- where it says so, it is always the same
+abbrev pub IsCell : Gains → Type 0
+IsCell cell = cell ≡ cell_of (told_by cell)
 
 -- the gains of two sets of ways together
 abbrev pub joined : Option Gains → Option Gains → Option Gains

@@ -60,6 +60,7 @@ impl Moves {
     }
 
     /// How many places there are.
+    #[inline(always)]
     pub fn places(&self) -> usize
         ensures is { result ≡ places_of self.now }
         ensures few { result ≤ 4294967296 }
@@ -68,6 +69,7 @@ impl Moves {
     }
 
     /// How many steps there are.
+    #[inline(always)]
     pub fn steps(&self) -> usize
         ensures { result ≡ steps_of self.now }
     {
@@ -75,6 +77,7 @@ impl Moves {
     }
 
     // The place that a step leads to from a place.
+    #[inline(always)]
     pub(crate) fn next(&self, place: usize, step: usize) -> usize
         requires place { place < places_of self.now }
         requires step { step < steps_of self.now }
@@ -85,6 +88,7 @@ impl Moves {
     }
 
     // What a step gains from a place.
+    #[inline(always)]
     pub(crate) fn gain(&self, place: usize, step: usize) -> u16
         requires place { place < places_of self.now }
         requires step { step < steps_of self.now }
@@ -94,6 +98,7 @@ impl Moves {
     }
 
     // How long a step is.
+    #[inline(always)]
     pub(crate) fn length(&self, step: usize) -> u16
         requires { step < steps_of self.now }
         ensures is { result ≡ step_length self.now step }
@@ -103,6 +108,7 @@ impl Moves {
     }
 
     // Whether a part ends at a place.
+    #[inline(always)]
     pub(crate) fn is_end(&self, place: usize) -> bool
         requires { place < places_of self.now }
         ensures { result ≡ is_end self.now place }
