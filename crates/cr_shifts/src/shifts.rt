@@ -23,12 +23,15 @@ use std::thread::Threads;
 
 // About how many turns each job of the first shift takes, and of the later ones at most. Few at first, so that few nodes soon
 // become many.
-const FIRST_TURNS: u64 = 1 << 12;
+const FIRST_TURNS: u64 = 1 << 10;
 
 const MOST_TURNS: u64 = 1 << 20;
 
-// How many jobs a shift has for each of several workers, and how many at most: the work of many is done soon.
-const JOBS_FOR_A_WORKER: usize = 16;
+// How many times as many turns a job of the next shift takes.
+const GROWTH: u64 = 4;
+
+// How many jobs a shift has for each of several workers, and how many at most: each is a thread.
+const JOBS_FOR_A_WORKER: usize = 4;
 
 const MOST_JOBS: usize = 256;
 
@@ -79,7 +82,7 @@ fn find_all<R: AllocGlobal + Threads + Sync, F: Finder + Sync>(
     while !left.is_empty() {
         let done = one_shift(rt, workers, finder, left, turns)?;
         left = put_together(alloc, done, found, handed)?;
-        turns = (2 * turns).min(MOST_TURNS);
+        turns = (GROWTH * turns).min(MOST_TURNS);
     }
     Ok(())
 }
@@ -175,37 +178,29 @@ fn in_jobs(alloc: Global, left: Vec<Vec<Node>>, most: usize) -> Result<Vec<Vec<N
     ensures all { IfOk result (λ jobs. nodes_of_jobs (lists jobs.items) ≡ nodes_of_jobs (lists left.items)) }
     ensures filled { IfOk result (λ jobs. All (λ job. 0 < length job) (lists jobs.items)) }
 {
-    let pieces = most.saturating_sub(left.len()).max(1);
-    let size = number_of(&left).div_ceil(pieces).max(1);
+    let pieces = most.div_ceil(left.len().max(1));
     let mut jobs = Vec::new(alloc);
     for nodes in left {
-        cut(&mut jobs, nodes, size)?;
+        cut(&mut jobs, nodes, pieces)?;
     }
     Ok(jobs)
 }
 
-// How many nodes all jobs have.
-fn number_of(jobs: &[Vec<Node>]) -> usize {
-    let mut number: usize = 0;
-    for job in jobs {
-        number = number.saturating_add(job.len());
-    }
-    number
-}
-
-// Appends the nodes of a job in jobs of at most so many.
-fn cut(jobs: &mut Vec<Vec<Node>>, nodes: Vec<Node>, size: usize) -> Result<(), NoMemory>
+// Appends the nodes of a job in so many jobs at most: each of the first ones by itself, since these have most below them, and
+// the others together.
+fn cut(jobs: &mut Vec<Vec<Node>>, nodes: Vec<Node>, pieces: usize) -> Result<(), NoMemory>
     requires some { 0 < length nodes.items }
-    requires size { 0 < size }
     requires filled { All (λ job. 0 < length job) (lists jobs.old.items) }
     ensures all { IfOk result (λ _. nodes_of_jobs (lists jobs.new.items) ≡ nodes_of_jobs (lists jobs.old.items) ++ nodes.items) }
     ensures filled { IfOk result (λ _. All (λ job. 0 < length job) (lists jobs.new.items)) }
 {
     let mut job = nodes;
-    while job.len() > size {
-        let rest = job.split_off(size)?;
+    let mut left = pieces;
+    while left > 1 && job.len() > 1 {
+        let rest = job.split_off(1)?;
         jobs.push(job)?;
         job = rest;
+        left -= 1;
     }
     jobs.push(job)?;
     Ok(())
