@@ -1,6 +1,6 @@
 //! The lead heads and the representative rows of a problem by numbers, and of each head and step a record of the lead.
 
-ghost use Rattle.std.specs.Prelude.{◌≡◌, ◌+◌, ◌*◌, ◌<◌, ◌≤◌, ◌↔◌, ℕ, List, IsTrue, false, [], length, get_or, take, drop, map, IfOk, IfSome};
+ghost use Rattle.std.specs.Prelude.{◌≡◌, ◌+◌, ◌*◌, ◌/◌, ◌<◌, ◌≤◌, ◌↔◌, ℕ, List, IsTrue, false, [], length, get_or, take, drop, map, IfOk, IfSome};
 ghost use Rattle.cr_leads.specs.Tables.{lead_table};
 ghost use Rattle.cr_model.specs.Problems.{ProblemParts};
 ghost use Rattle.cr_model.specs.Limits.{most_patterns};
@@ -141,7 +141,7 @@ impl NumberTable {
     pub(crate) fn number_of(&self, base: u32) -> u32
         ensures { (row : List ℕ) → IsBase self.now row base → (result < length self.now.heads) × (get_or self.now.heads result [] ≡ row) }
     {
-        base / u32::from(self.steps)
+        divided(base, self.steps)
     }
 
     /// Whether the head with this number is this row.
@@ -167,7 +167,7 @@ impl NumberTable {
         requires { StartsHead self.now base }
         ensures { (row : List ℕ) → IsBase self.now row base → result ≡ row }
     {
-        self.head(base as usize / usize::from(self.steps))
+        self.head(divided(base, self.steps) as usize)
     }
 
     // The head with this number.
@@ -304,6 +304,20 @@ fn rows_of(alloc: Global, stack: &RowStack) -> Result<Vec<Row>, NoMemory>
         rows.push(stack.row_at(place))?;
     }
     Ok(rows)
+}
+
+// A number of records by the number of steps. Two or three steps, as most problems have, are constants here: to divide by a
+// number that is not known when this is compiled takes five times as long.
+#[inline(always)]
+fn divided(base: u32, steps: u8) -> u32
+    requires { 0 < steps }
+    ensures { result ≡ base / steps }
+{
+    match steps {
+        2 => base / 2,
+        3 => base / 3,
+        _ => base / u32::from(steps),
+    }
 }
 
 // So many numbers, of which those of the first places stand before.

@@ -1,18 +1,15 @@
-use Rattle.std.proofs.Common.{◌≡◌, ◌/◌, ◌<◌, ◌∙◌, ℕ, [], length, get_or, sym, ap, subst, arith}
+use Rattle.std.proofs.Common.{◌≡◌, ◌<◌, ◌∙◌, ℕ, [], length, get_or, sym, ap, subst}
 use Rattle.cr_path.specs.Numbers.{NumberParts, IsBase}
 use Rattle.cr_path.proofs.Places.{number_is}
 use Rattle.cr_path.proofs.numbers.table.NumberTable.number_of.Goals as goal
-
-pub nonzero_div-result : goal.nonzero_div-result
-nonzero_div-result c = omega (arith, c.from.ensures, c.self.invariant.some)
 
 pub returns : goal.returns
 returns c = λ row is.
     let e = c.self.inside in
     let from = subst (λ (t : NumberParts). IsBase t row c.args.base) (sym c.self.view_is) is in
-    let number : c.args.base / c.from.result ≡ from.number =
-    ap (λ (n : ℕ). c.args.base / n) c.from.ensures ∙ number_is _ row c.args.base from c.self.invariant.some in
-    subst (λ (t : NumberParts). (c.args.base / c.from.result < length t.heads) × (get_or t.heads (c.args.base / c.from.result) [] ≡ row)) c.self.view_is (
+    let number : c.divided.result ≡ from.number =
+    c.divided.ensures ∙ number_is _ row c.args.base from c.self.invariant.some in
+    subst (λ (t : NumberParts). (c.divided.result < length t.heads) × (get_or t.heads c.divided.result [] ≡ row)) c.self.view_is (
       subst (λ (n : ℕ). n < length e.heads.items) (sym number) from.numbered,
       ap (λ (n : ℕ). get_or e.heads.items n []) number ∙ from.is,
     )
