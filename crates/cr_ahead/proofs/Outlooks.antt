@@ -20,7 +20,7 @@ use Rattle.cr_ahead.specs.Items.{Item, com_item, com_items, number_with, CannotM
 use Rattle.cr_ahead.specs.LeadMoves.{IsPlaceOf, last_method, of_touches, refuses}
 use Rattle.cr_ahead.specs.Exact.{head_items, cannot_come_by_heads}
 use Rattle.cr_ahead.specs.ByMethod.{places_each, place_by}
-use Rattle.cr_ahead.specs.Outlooks.{IsHomeTable, IsTableOf, IsLimitTable, IsComTable, IsItemTable, AreItemTables, no_item, none_at, is_refused, is_refused_at, IsSomeRefused}
+use Rattle.cr_ahead.specs.Outlooks.{IsHomeTable, IsTableOf, IsComTable, IsItemTable, AreItemTables, no_item, head_item, none_at, is_refused, is_refused_at, IsSomeRefused}
 use Rattle.cr_ahead.proofs.Exact.{CannotComeByHeads, heads_decided, or_none}
 use Rattle.cr_ahead.proofs.Home.{item_decided}
 use Rattle.cr_ahead.proofs.LeadMoves.{refused}
@@ -43,6 +43,13 @@ zip_length R [] [] all = refl
 zip_length R [] (y ∷ ys) all = absurd all
 zip_length R (x ∷ xs) [] all = absurd all
 zip_length R (x ∷ xs) (y ∷ ys) all = ap suc (zip_length R xs ys all.1)
+
+-- the table at an index is that of the item there
+pub table_at : (p : ProblemParts) (heads : List (List ℕ)) (unit : ℕ) (tables : List ItemTable) (i : ℕ) (t : ItemTable) → AreItemTables p heads unit (head_items p) tables
+    → i < length tables → t ≡ get_or tables i t → IsItemTable p heads unit (head_item p i) t
+table_at p heads unit tables i t are inside is =
+    let within : i < length (head_items p) = omega (arith, inside, zip_length (IsItemTable p heads unit) (head_items p) tables are) in
+    subst (IsItemTable p heads unit (head_item p i)) (sym is) (zip_at (IsItemTable p heads unit) (head_items p) tables i no_item t are within)
 
 -- all tables have as many places
 pub all_places : (p : ProblemParts) (heads : List (List ℕ)) (unit : ℕ) (items : List Item) (tables : List ItemTable) → AreItemTables p heads unit items tables
@@ -70,6 +77,16 @@ module _ (p : ProblemParts) (heads : List (List ℕ)) (unit place long : ℕ) (n
   pub home_says : (table : AheadParts) → head_items p ≡ [] → IsTableOf p heads unit no_item table → is_none (answer_at table place long) ≡ cannot_come_by_heads p node
   home_says table none of_table = home_by (answer_at table place long) none (of_table.tells place long node at is)
 
+  -- an item is refused exactly where the node cannot meet its limits
+  pub one_refused : (item : Item) (t : ItemTable) (parts number : ℕ) → parts ≡ parts_of p → IsItemTable p heads unit item t → number ≡ item.number_of node
+      → is_refused parts place long t number ≡ cannot_meet p node item
+  one_refused item t parts number same of_item counted =
+      ap (λ (n : ℕ). refuses t.min t.max (of_touches parts n (answer_at t.table place long))) counted
+      ∙ ap (λ (n : ℕ). refuses t.min t.max (of_touches n (item.number_of node) (answer_at t.table place long))) same
+      ∙ ap (λ (z : ℤ). refuses z t.max (of_touches (parts_of p) (item.number_of node) (answer_at t.table place long))) of_item.min
+      ∙ ap (λ (z : ℤ). refuses item.min z (of_touches (parts_of p) (item.number_of node) (answer_at t.table place long))) of_item.max
+      ∙ sym (refused p node item (of_touches (parts_of p) (item.number_of node) (answer_at t.table place long)) sound (of_item.table.tells place long node at is))
+
   -- where there are some
   module _ (parts : ℕ) (tables : List ItemTable) (so_far : List ℕ) (same : parts ≡ parts_of p) (are : AreItemTables p heads unit (head_items p) tables)
       (has : so_far ≡ map (λ item. item.number_of node) (head_items p)) where
@@ -77,14 +94,9 @@ module _ (p : ProblemParts) (heads : List (List ℕ)) (unit place long : ℕ) (n
     refused_at i inside =
         let item : Item = get_or (head_items p) i no_item in
         let t : ItemTable = get_or tables i none_at in
-        let of_item : IsItemTable p heads unit item t = zip_at (IsItemTable p heads unit) (head_items p) tables i no_item none_at are inside in
         let number : get_or so_far i 0 ≡ item.number_of node =
         ap (λ (numbers : List ℕ). get_or numbers i 0) has ∙ get_or-map (λ some. some.number_of node) (head_items p) i no_item 0 inside in
-        ap (λ (n : ℕ). refuses t.min t.max (of_touches parts n (answer_at t.table place long))) number
-        ∙ ap (λ (n : ℕ). refuses t.min t.max (of_touches n (item.number_of node) (answer_at t.table place long))) same
-        ∙ ap (λ (z : ℤ). refuses z t.max (of_touches (parts_of p) (item.number_of node) (answer_at t.table place long))) of_item.min
-        ∙ ap (λ (z : ℤ). refuses item.min z (of_touches (parts_of p) (item.number_of node) (answer_at t.table place long))) of_item.max
-        ∙ sym (refused p node item (of_touches (parts_of p) (item.number_of node) (answer_at t.table place long)) sound (of_item.table.tells place long node at is))
+        one_refused item t parts (get_or so_far i 0) same (zip_at (IsItemTable p heads unit) (head_items p) tables i no_item none_at are inside) number
 
     pub items_say : (result : Bool) → 0 < length (head_items p) → IsSomeRefused parts place long tables so_far result → result ≡ cannot_come_by_heads p node
     items_say true some one =

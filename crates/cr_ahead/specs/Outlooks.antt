@@ -69,6 +69,10 @@ AreItemTables p heads unit items tables = AllZip (IsItemTable p heads unit) item
 abbrev pub no_item : Item
 no_item = record { number_of = λ calling. 0; min = pos 0; max = pos 0 }
 
+-- the item at an index, of those of which the head tells all
+abbrev pub head_item : ProblemParts → ℕ → Item
+head_item p i = get_or (head_items p) i no_item
+
 -- a table that tells only whether there is a way home. There is one exactly where there are no items of which the head tells all
 abbrev pub IsHomeTable : ProblemParts → List (List ℕ) → ℕ → Option AheadParts → Type 0
 IsHomeTable p heads unit None = 0 < length (head_items p)

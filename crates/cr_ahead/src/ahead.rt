@@ -63,6 +63,7 @@ impl Ahead {
 
     /// The least and the greatest gain of all ways from a place at which a part is so long. None exactly where there
     /// is none. It takes constant time.
+    #[inline(always)]
     pub fn at(&self, place: u32, length: u32) -> Option<Gains>
         requires { place < self.now.places }
         ensures is { result ≡ answer_at self.now place length }

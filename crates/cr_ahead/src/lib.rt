@@ -17,6 +17,8 @@
 //!   one of these items. It takes no memory.
 //! - [`changes_of_method`], [`last_method`] and [`change_after`]: what it asks of a node's methods, lead by lead.
 //! - [`Outlook::cannot_come_by_heads`] and [`Outlook::cannot_change`]: the same by all but changes of method, and by these alone.
+//! - [`Outlook::in_units`] and [`Outlook::cannot_meet`]: a node's length in units, and whether it cannot meet one item, for who asks
+//!   item by item.
 //!
 //! The functions of [`laws`] do nothing: the contract of each is what is proved of ways, and of the ways home of a
 //! problem, on which a node of a search that cannot come to what is asked has no kept touch below it.

@@ -1,6 +1,6 @@
 //! What a node of a search can still come to.
 
-ghost use Rattle.std.specs.Prelude.{◌≡◌, ℕ, ◌+◌, ◌*◌, ◌<◌, ◌≤◌, ◌↔◌, true, false, List, length, get_or, map, All, is_none, is_some, IsTrue, IfOk, IfSome};
+ghost use Rattle.std.specs.Prelude.{◌≡◌, ℕ, ◌+◌, ◌*◌, ◌/◌, ◌<◌, ◌≤◌, ◌↔◌, true, false, List, length, get_or, map, All, is_none, is_some, IsTrue, IfOk, IfSome};
 ghost use Rattle.std.specs.List.{list_any};
 ghost use Rattle.cr_model.specs.Problems.{ProblemParts};
 ghost use Rattle.cr_model.specs.Callings.{length_of};
@@ -9,7 +9,7 @@ ghost use Rattle.cr_ahead.specs.ByMethod.{places_each, place_by};
 ghost use Rattle.cr_ahead.specs.Exact.{exact_com, head_items, cannot_come_by, cannot_come_by_heads};
 ghost use Rattle.cr_ahead.specs.Items.{com_items, cannot_meet};
 ghost use Rattle.cr_ahead.specs.LeadMoves.{IsPlaceOf, last_method};
-ghost use Rattle.cr_ahead.specs.Outlooks.{AreLeadHeads, IsOutlook, IsSomeRefused, is_refused};
+ghost use Rattle.cr_ahead.specs.Outlooks.{AreLeadHeads, IsOutlook, IsSomeRefused, is_refused, head_item};
 
 use crate::ahead::Ahead;
 use crate::by_method::{com_table, limit_of, place_by, places_each};
@@ -94,6 +94,7 @@ impl Outlook {
     }
 
     /// How many lead heads there are.
+    #[inline(always)]
     pub fn places(&self) -> usize
         ensures { result ≡ self.now.places }
     {
@@ -115,6 +116,7 @@ impl Outlook {
     }
 
     /// How many items there are of which the head tells all: all counts, and in one part the patterns.
+    #[inline(always)]
     pub fn items(&self) -> usize
         ensures { result ≡ length self.now.items }
     {
@@ -162,7 +164,29 @@ impl Outlook {
         }
     }
 
+    /// How many units of length so many changes are.
+    #[inline(always)]
+    pub fn in_units(&self, changes: u32) -> u32
+        ensures { result ≡ changes / self.now.unit }
+    {
+        divided(changes, self.unit)
+    }
+
+    /// Whether a node cannot meet the limits of the item at an index, of those of which the head tells all: its head stands at
+    /// the place, it has so many units of length, and so much of the item so far. It takes no memory, and constant time.
+    #[inline(always)]
+    pub fn cannot_meet(&self, item: usize, place: u32, units: u32, so_far: u32) -> bool
+        requires item { item < length self.now.items }
+        requires place { place < self.now.places }
+        ensures { (p : ProblemParts) (heads : List (List ℕ)) (node : List ℕ) → IsOutlook p heads self.now → IsPlaceOf p heads place node
+            → units ≡ length_of p node / self.now.unit → so_far ≡ (head_item p item).number_of node
+            → result ≡ cannot_meet p node (head_item p item) }
+    {
+        is_refused(&self.items[item], self.parts, place, units, so_far)
+    }
+
     /// The same as [`cannot_come`](Outlook::cannot_come), where changes of method are not looked at.
+    #[inline(always)]
     pub fn cannot_come_by_heads(&self, place: u32, changes: u32, so_far: &[u32]) -> bool
         requires place { place < self.now.places }
         requires so_far { length so_far.now ≡ length self.now.items }
@@ -178,7 +202,26 @@ impl Outlook {
     }
 }
 
+// How many units so many changes are. The units of most methods are constants here: to divide by a number that is not known
+// when this is compiled takes five times as long.
+#[inline(always)]
+fn divided(changes: u32, unit: u32) -> u32
+    requires { 1 ≤ unit }
+    ensures { result ≡ changes / unit }
+{
+    match unit {
+        12 => changes / 12,
+        16 => changes / 16,
+        20 => changes / 20,
+        24 => changes / 24,
+        32 => changes / 32,
+        40 => changes / 40,
+        _ => changes / unit,
+    }
+}
+
 // Whether there is no way home.
+#[inline(always)]
 fn is_nowhere(gains: Option<Gains>) -> bool
     ensures { result ≡ is_none gains }
 {
@@ -186,6 +229,7 @@ fn is_nowhere(gains: Option<Gains>) -> bool
 }
 
 // Whether some item is refused.
+#[inline(always)]
 fn some_is_refused(items: &[ItemTable], parts: u64, place: u32, units: u32, so_far: &[u32]) -> bool
     requires parts { parts ≤ 64 }
     requires places { All (λ of_item. place < of_item.table.places) items.now }
@@ -201,6 +245,7 @@ fn some_is_refused(items: &[ItemTable], parts: u64, place: u32, units: u32, so_f
 }
 
 // Whether an item is refused.
+#[inline(always)]
 fn is_refused(of_item: &ItemTable, parts: u64, place: u32, units: u32, so_far: u32) -> bool
     requires parts { parts ≤ 64 }
     requires place { place < of_item.now.table.places }

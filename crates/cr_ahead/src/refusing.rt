@@ -6,6 +6,7 @@ ghost use Rattle.cr_ahead.specs.LeadMoves.{of_touches, refuses};
 use crate::gains::Gains;
 
 /// Whether a touch of so many parts cannot meet the limits, where each part has so much so far and gains these.
+#[inline(always)]
 pub fn refuses(min: i64, max: i64, parts: u64, so_far: u32, gains: Option<Gains>) -> bool
     requires { parts ≤ 64 }
     ensures { result ≡ refuses min max (of_touches parts so_far gains) }
@@ -20,6 +21,7 @@ pub fn refuses(min: i64, max: i64, parts: u64, so_far: u32, gains: Option<Gains>
 }
 
 // What a touch has by so much in each part so far and so much more.
+#[inline(always)]
 fn in_parts(parts: u64, so_far: u32, more: u32) -> u64
     requires { parts ≤ 64 }
     ensures { result ≡ parts * (so_far + more) }
@@ -28,6 +30,7 @@ fn in_parts(parts: u64, so_far: u32, more: u32) -> u64
 }
 
 // Whether a number is above the greatest.
+#[inline(always)]
 fn exceeds(number: u64, greatest: i64) -> bool
     ensures { result ≡ int_lt greatest (pos number) }
 {
@@ -35,6 +38,7 @@ fn exceeds(number: u64, greatest: i64) -> bool
 }
 
 // Whether a number is below the least.
+#[inline(always)]
 fn falls_short(number: u64, least: i64) -> bool
     ensures { result ≡ int_lt (pos number) least }
 {

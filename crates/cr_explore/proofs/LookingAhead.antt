@@ -1,6 +1,6 @@
 -- What an outlook is asked of a node.
-use Rattle.std.proofs.Common.{◌≡◌, ℕ, ◌≤◌, Bool, true, false, cond, nat_eq, List, [], ◌++◌, length, get_or, map, take, take_at, sym, ap, ap₂, ◌∙◌, arith, append-nil, append_assoc, length-append}
-use Rattle.std.proofs.lemmas.List.{map-append, length-map}
+use Rattle.std.proofs.Common.{◌≡◌, ℕ, ◌<◌, ◌≤◌, Bool, true, false, cond, nat_eq, List, [], ◌∷◌, ◌++◌, length, get_or, map, refl, sym, ap, ap₂, ◌∙◌, arith, append-nil, append_assoc, length-append}
+use Rattle.std.proofs.lemmas.List.{map-append, length-map, get_or-map, get_or_append_left}
 use Rattle.std.proofs.lemmas.List.Elements.{All-get_or}
 use Rattle.std.proofs.lemmas.Simd.{map-map}
 use Rattle.cr_row.specs.Rows.{Places, rounds, product}
@@ -12,7 +12,7 @@ use Rattle.cr_query.specs.Meters.{item_numbers}
 use Rattle.cr_path.specs.Numbers.{AreNextHeads}
 use Rattle.cr_ahead.specs.Exact.{head_items}
 use Rattle.cr_ahead.specs.Items.{Item, count_item, method_item, pattern_item}
-use Rattle.cr_ahead.specs.Outlooks.{AreLeadHeads, OutlookParts, IsItemTable, IsOutlook}
+use Rattle.cr_ahead.specs.Outlooks.{AreLeadHeads, OutlookParts, IsItemTable, IsOutlook, no_item, head_item}
 use Rattle.cr_ahead.proofs.HeadMoves.{head_times}
 use Rattle.cr_ahead.proofs.Outlooks.{zip_length}
 
@@ -59,17 +59,28 @@ module _ (p : ProblemParts) (node : List ℕ) where
           let rows = map (λ pattern. rows_fitting pattern.cells (rows_of p node)) p.query.patterns in
           (rows, sym (ap (λ front. front ++ rows) (items_on [] ∙ ap (λ more. counts ++ more) (append-nil methods)) ∙ append_assoc counts methods rows))
 
-  -- so they are no more, and what the node has of them stands in front
+  -- so they are no more
   pub few_items : length (head_items p) ≤ length (item_numbers p node)
   few_items =
       let (rest, is) = items_begin in
       let whole : length (item_numbers p node) ≡ length (exact_numbers ++ rest) = ap length is in
       omega (arith, whole, length-append exact_numbers rest, length-map (head_items p) (λ (item : Item). item.number_of node))
 
-  pub front_of_items : take (length (head_items p)) (item_numbers p node) ≡ exact_numbers
-  front_of_items =
+  -- what the node has of each of them
+  pub item_told : (i : ℕ) → i < length (head_items p) → get_or (item_numbers p node) i 0 ≡ (head_item p i).number_of node
+  item_told i inside =
       let (rest, is) = items_begin in
-      ap (take (length (head_items p))) is ∙ take_at exact_numbers rest (length (head_items p)) (length-map (head_items p) (λ (item : Item). item.number_of node))
+      ap (λ (numbers : List ℕ). get_or numbers i 0) is
+      ∙ get_or_append_left exact_numbers rest 0 i (omega (arith, inside, length-map (head_items p) (λ (item : Item). item.number_of node)))
+      ∙ get_or-map (λ some. some.number_of node) (head_items p) i no_item 0 inside
+
+  -- and where there are none
+  pub none_told : length (head_items p) ≡ 0 → [] ≡ exact_numbers
+  none_told none = by (head_items p) none
+    where
+      by : (items : List Item) → length items ≡ 0 → [] ≡ map (λ item. item.number_of node) items
+      by [] empty = refl
+      by (item ∷ items) empty = absurd (omega (arith, empty))
 
 -- an outlook has a table for each exact item
 pub items_of_outlook : (p : ProblemParts) (heads : List (List ℕ)) (outlook : OutlookParts) → IsOutlook p heads outlook → length outlook.items ≡ length (head_items p)

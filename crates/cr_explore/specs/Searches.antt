@@ -46,11 +46,6 @@ pub record IsWalkPath (p : ProblemParts) (leads : TableParts) (walk : WalkParts)
   pub reach : pruner.reach ≡ reach_table p most_rows
   pub tried : next ≤ length p.leads
 
--- a path by numbers has an outlook from the heads of its numbers, and room for what its node has of each item of that
-pub record IsNarrowPath (p : ProblemParts) (numbers : NumberParts) (outlook : OutlookParts) (room : List ℕ) : Type 0 where
-  pub outlook_of : IsOutlook p numbers.heads outlook
-  pub room_for : length room ≡ length outlook.items
-
 -- the numbers of a search are those of the problem, and its outlook is from their heads
 pub record IsNarrow (p : ProblemParts) (numbers : NumberParts) (outlook : OutlookParts) : Type 0 where
   pub numbered : IsNumbered p numbers

@@ -1,15 +1,15 @@
 //! A path by numbers that knows what can still come.
 
-ghost use Rattle.std.specs.Prelude.{◌≡◌, ◌<◌, ◌≤◌, true, [], length, take, IfOk};
+ghost use Rattle.std.specs.Prelude.{◌≡◌, ◌/◌, ◌<◌, ◌≤◌, true, [], length, IfOk};
+ghost use Rattle.cr_ahead.specs.LeadMoves.{IsPlaceOf};
 ghost use Rattle.cr_ahead.specs.Outlooks.{IsOutlook};
 ghost use Rattle.cr_leads.specs.Tables.{lead_table};
-ghost use Rattle.cr_model.specs.Callings.{HasSteps};
+ghost use Rattle.cr_model.specs.Callings.{HasSteps, length_of};
 ghost use Rattle.cr_model.specs.Dead.{HasNoneBelow};
 ghost use Rattle.cr_model.specs.Limits.{most_leads};
 ghost use Rattle.cr_model.specs.Queries.{changes_of_method};
 ghost use Rattle.cr_path.specs.Counted.{AsksNothing};
 ghost use Rattle.cr_path.specs.Numbers.{IsNumbered};
-ghost use Rattle.cr_query.specs.Meters.{item_numbers};
 
 use crate::number_path::NumberPath;
 use crate::path::Path;
@@ -34,20 +34,18 @@ pub struct NarrowPath<'a, const WIDTH: usize, const COUNTS: usize, const STEPS: 
     path: NumberPath<'a, WIDTH, COUNTS, STEPS>,
     numbers: &'a NumberTable,
     outlook: &'a Outlook,
-    // Room for what the node has of each item of the outlook.
-    so_far: Vec<u32>,
 }
 
 impl<'a, const WIDTH: usize, const COUNTS: usize, const STEPS: usize> Model
     for NarrowPath<'a, WIDTH, COUNTS, STEPS> {
+    ghost use Rattle.cr_ahead.specs.Outlooks.{IsOutlook};
     ghost use Rattle.cr_path.specs.Walks.{WalkParts};
-    ghost use Rattle.cr_explore.specs.Searches.{IsNarrowPath};
 
     ghost Value = { WalkParts };
 
     ghost view = { λ w. w.path };
 
-    ghost invariant = { λ w. IsNarrowPath w.path.problem w.numbers.now w.outlook.now w.so_far.items };
+    ghost invariant = { λ w. IsOutlook w.path.problem w.numbers.now.heads w.outlook.now };
 }
 
 impl<'a, const WIDTH: usize, const COUNTS: usize, const STEPS: usize> NarrowPath<
@@ -73,13 +71,11 @@ impl<'a, const WIDTH: usize, const COUNTS: usize, const STEPS: usize> NarrowPath
         requires outlook { IsOutlook problem.now numbers.now.heads outlook.now }
         ensures { IfOk result (λ path. path ≡ record { problem = problem.now; node = []; next = length problem.now.leads }) }
     {
-        let so_far = Vec::from_elem(alloc, 0, outlook.items())?;
         let path = NumberPath::new(alloc, problem, leads, numbers)?;
         Ok(NarrowPath {
             path,
             numbers,
             outlook,
-            so_far,
         })
     }
 
@@ -133,13 +129,11 @@ impl<'a, const WIDTH: usize, const COUNTS: usize, const STEPS: usize> Path
             path,
             numbers,
             outlook,
-            so_far,
         } = self;
         NarrowPath {
             path: path.gone_to(steps),
             numbers,
             outlook,
-            so_far,
         }
     }
 
@@ -159,12 +153,7 @@ impl<'a, const WIDTH: usize, const COUNTS: usize, const STEPS: usize> Path
 
     #[inline(always)]
     fn has_none_below(&mut self) -> bool {
-        cannot_come(
-            self.outlook,
-            self.numbers,
-            self.path.walk(),
-            &mut self.so_far,
-        )
+        cannot_come(self.outlook, self.numbers, self.path.walk())
     }
 
     #[inline(always)]
@@ -174,26 +163,69 @@ impl<'a, const WIDTH: usize, const COUNTS: usize, const STEPS: usize> Path
 }
 
 // Whether an outlook from the heads of a table of numbers tells that a walk's node cannot come to what is asked, changes of
-// method left aside. What the node has of each item is written into the room for it.
+// method left aside. It is given up at the first item that cannot be met.
 #[inline(always)]
 fn cannot_come<const WIDTH: usize, const COUNTS: usize, const STEPS: usize>(
     outlook: &Outlook,
     numbers: &NumberTable,
     walk: &NumberWalk<WIDTH, COUNTS, STEPS>,
-    so_far: &mut Vec<u32>,
 ) -> bool
-    requires outlook { IsOutlook walk.now.problem numbers.now.heads outlook.now }
-    requires so_far { length so_far.old.items ≡ length outlook.now.items }
-    ensures same { length so_far.new.items ≡ length so_far.old.items }
-    ensures none { result ≡ true → HasNoneBelow walk.now.problem walk.now.node }
+    requires { IsOutlook walk.now.problem numbers.now.heads outlook.now }
+    ensures { result ≡ true → HasNoneBelow walk.now.problem walk.now.node }
 {
-    nothing_is_kept_below_a_node_that_cannot_come_by_exact_items();
-    heads_tell_what_changes_of_method_do_not();
     let Some(place) = walk.head_number(numbers) else {
         return false;
     };
-    take_items(walk, so_far);
-    outlook.cannot_come_by_heads(place, walk.length() as u32, so_far)
+    if outlook.items() == 0 {
+        return cannot_come_home(outlook, numbers, walk, place);
+    }
+    let units = outlook.in_units(walk.length() as u32);
+    for item in 0..outlook.items() {
+        if cannot_meet(outlook, numbers, walk, place, units, item) {
+            return true;
+        }
+    }
+    false
+}
+
+// Whether a walk's node, whose head has this number, has no way home, where an outlook has no items.
+#[inline(always)]
+fn cannot_come_home<const WIDTH: usize, const COUNTS: usize, const STEPS: usize>(
+    outlook: &Outlook,
+    numbers: &NumberTable,
+    walk: &NumberWalk<WIDTH, COUNTS, STEPS>,
+    place: u32,
+) -> bool
+    requires outlook { IsOutlook walk.now.problem numbers.now.heads outlook.now }
+    requires place { IsPlaceOf walk.now.problem numbers.now.heads place walk.now.node }
+    requires none { length outlook.now.items ≡ 0 }
+    ensures { result ≡ true → HasNoneBelow walk.now.problem walk.now.node }
+{
+    nothing_is_kept_below_a_node_that_cannot_come_by_exact_items();
+    heads_tell_what_changes_of_method_do_not();
+    outlook.cannot_come_by_heads(place, walk.length() as u32, &[])
+}
+
+// Whether a walk's node, whose head has this number and which has so many units of length, cannot meet the limits of the item at
+// an index.
+#[inline(always)]
+fn cannot_meet<const WIDTH: usize, const COUNTS: usize, const STEPS: usize>(
+    outlook: &Outlook,
+    numbers: &NumberTable,
+    walk: &NumberWalk<WIDTH, COUNTS, STEPS>,
+    place: u32,
+    units: u32,
+    item: usize,
+) -> bool
+    requires outlook { IsOutlook walk.now.problem numbers.now.heads outlook.now }
+    requires place { IsPlaceOf walk.now.problem numbers.now.heads place walk.now.node }
+    requires units { units ≡ length_of walk.now.problem walk.now.node / outlook.now.unit }
+    requires item { item < length outlook.now.items }
+    ensures { result ≡ true → HasNoneBelow walk.now.problem walk.now.node }
+{
+    nothing_is_kept_below_a_node_that_cannot_come_by_exact_items();
+    heads_tell_what_changes_of_method_do_not();
+    outlook.cannot_meet(item, place, units, walk.item_number(item))
 }
 
 // The same of changes of method, which are so many of the node.
@@ -217,19 +249,4 @@ fn cannot_change<const WIDTH: usize, const COUNTS: usize, const STEPS: usize>(
     };
     let last = last_method(problem, walk.steps());
     outlook.cannot_change(place, walk.length() as u32, last, changed)
-}
-
-// Writes what a walk's node has of the first items, as many as there is room for.
-#[inline(always)]
-fn take_items<const WIDTH: usize, const COUNTS: usize, const STEPS: usize>(
-    walk: &NumberWalk<WIDTH, COUNTS, STEPS>,
-    so_far: &mut Vec<u32>,
-)
-    requires { length so_far.old.items ≤ length (item_numbers walk.now.problem walk.now.node) }
-    ensures same { length so_far.new.items ≡ length so_far.old.items }
-    ensures items { so_far.new.items ≡ take (length so_far.old.items) (item_numbers walk.now.problem walk.now.node) }
-{
-    for item in 0..so_far.len() {
-        so_far[item] = walk.item_number(item);
-    }
 }
