@@ -13,6 +13,8 @@ pub mod Grown
 pub mod Bounds
 pub mod Lives
 pub mod Recorded
+pub mod AllHeads
+pub mod Placed
 pub mod Covering
 pub mod Names
 pub mod Padding

@@ -3,7 +3,7 @@ use Rattle.std.proofs.Common.{◌≡◌, ℕ, ◌+◌, ◌-◌, ◌*◌, ◌<◌
 use Rattle.std.specs.Prelude.{All}
 use Rattle.std.proofs.lemmas.Bool.{cases_eq, cases_lt}
 use Rattle.std.proofs.lemmas.Nat.{same_from_place, row_fits}
-use Rattle.std.proofs.lemmas.List.{length-map, get_or_append_left, get_or_push, drop-append-le, take-append-le, length-drop, drop_at, take_all}
+use Rattle.std.proofs.lemmas.List.{append-nil, length-map, get_or_append_left, get_or_push, drop-append-le, take-append-le, length-drop, drop_at, take_all}
 use Rattle.std.proofs.lemmas.List.Elements.{All-take, All-drop, All-append, All-push, All-weaker, All-same}
 use Rattle.cr_model.specs.Problems.{ProblemParts}
 use Rattle.cr_model.specs.Callings.{lead_length}
@@ -15,7 +15,7 @@ use Rattle.cr_path.specs.RungLeads.{IsKept, HasNumber, AreNumbered, IsBegun}
 use Rattle.cr_path.specs.declared.numbers.rung_leads.RungLead.{RungLead}
 use Rattle.cr_path.proofs.Children.{child_head}
 use Rattle.cr_path.proofs.Places.{record_within}
-use Rattle.cr_path.proofs.Grown.{kept_by, heads_more, same_rows, all_kept}
+use Rattle.cr_path.proofs.Grown.{kept_all, kept_by, heads_more, same_rows, all_kept}
 
 -- the head after a lead is reached
 pub reached_after : (p : ProblemParts) (head : List ℕ) (step : ℕ) → IsReached p head → step < length p.leads → IsReached p (head_after p head step)
@@ -88,7 +88,7 @@ rung_record p told old new head step lead is =
     }
 
 -- an earlier place is of a head that is there
-row_inside : (other its place step heads steps : ℕ) → place < heads → step < steps → other * steps + its < place * steps + step → other < heads
+pub row_inside : (other its place step heads steps : ℕ) → place < heads → step < steps → other * steps + its < place * steps + step → other < heads
 row_inside other its place step heads steps place_in step_in earlier = elim (cases_lt other heads) [
   | inl inside ↦ inside
   | inr beyond ↦
@@ -145,6 +145,24 @@ begun_more p told old new place step done lead begun at place_in step_in is =
                 is.rows.joined begun.within (begun.each other its d inside known below)))
           ];
     }
+
+-- the same records where there are more rows
+pub begun_rows : (p : ProblemParts) (told : List (List (List ℕ))) (t : RungParts) (rows : List (List ℕ)) (done : ℕ) → IsBegun p told t done → IsKept t.rows rows → AllDiffer rows
+    → IsBegun p told (record { steps = t.steps; heads = t.heads; rows = rows; records = t.records; numbers = t.numbers }) done
+begun_rows p told t rows done begun kept differ = record {
+  counted = begun.counted;
+  heads = begun.heads;
+  some_row = omega (arith, begun.some_row, kept.long);
+  first_row = kept.same 0 begun.some_row ∙ begun.first_row;
+  differ = differ;
+  within = all_kept t.rows rows t.numbers kept begun.within;
+  recorded = begun.recorded;
+  held = begun.held;
+  each = λ head step d head_in step_in low.
+      record_kept p told t (record { steps = t.steps; heads = t.heads; rows = rows; records = t.records; numbers = t.numbers }) []
+      (get_or t.heads head []) step (get_or t.records (head * t.steps + step) d) (kept_all t.heads) kept (sym (append-nil t.numbers)) begun.within
+      (begun.each head step d head_in step_in low);
+}
 
 -- with a record of each lead they are rung from all heads
 pub rung_whole : (p : ProblemParts) (told : List (List (List ℕ))) (t : RungParts) (done : ℕ) → IsBegun p told t done → done ≡ length t.heads * t.steps → IsRung p told t

@@ -7,7 +7,7 @@ use Rattle.cr_path.specs.declared.numbers.rung_leads.LeadNumbers.{LeadNumbers}
 abbrev pub numbers_in : ProblemParts → LeadNumbers → RungParts
 numbers_in p made = record {
   steps = length p.leads;
-  heads = made.heads.rows;
+  heads = made.heads.rows.items;
   rows = made.rows.rows;
   records = made.records.items;
   numbers = made.numbers.items;

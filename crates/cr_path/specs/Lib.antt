@@ -3,6 +3,8 @@ pub mod Ends
 pub mod Marks
 pub mod Rung
 pub mod RungLeads
+pub mod Heads
+pub mod ToldRows
 pub mod Covers
 pub mod Representatives
 pub mod PathLimits

@@ -17,3 +17,4 @@ pub mod rung_leads;
 pub mod rung_patterns;
 pub mod stopped;
 pub mod table;
+pub mod told_rows;

@@ -1,24 +1,32 @@
 //! Rows that stand for others: where a row stands, the row that covers it does too.
 
-ghost use Rattle.std.specs.Prelude.{◌≡◌, ◌↔◌, ◌<◌, length, All, IsTrue, IfOk};
-ghost use Rattle.std.specs.List.{range_with_len};
+ghost use Rattle.std.specs.Prelude.{◌↔◌, ◌<◌, length, All, IsTrue, IfOk};
+ghost use Rattle.cr_leads.specs.Tables.{lead_table};
+ghost use Rattle.cr_false.specs.Telling.{AreTelling};
 ghost use Rattle.cr_path.specs.Covers.{CoversItself, IsCovered, StaysWithin, IsCover};
 ghost use Rattle.cr_path.specs.Rung.{IsHeld, rung_numbers};
 
-use crate::numbers::growing::narrow;
-use crate::numbers::proposed::proposed_cover;
+use crate::numbers::leads::Leads;
+use crate::numbers::proposed::{each_itself, proposed_cover};
 use crate::numbers::rung_leads::{LeadNumbers, RungLead};
 use crate::numbers::stopped::Stopped;
+use cr_false::TellingRows;
 use std::alloc::Global;
 
 /// Of each row the number of the row that covers it.
-pub fn cover_of(alloc: Global, made: &LeadNumbers) -> Result<Vec<u32>, Stopped>
+pub fn cover_of(
+    alloc: Global,
+    leads: &Leads,
+    told: &TellingRows,
+    made: &LeadNumbers,
+) -> Result<Vec<u32>, Stopped>
+    requires telling { AreTelling (lead_table leads.now) told.now }
     requires held { All (IsHeld (length made.now.numbers.items)) made.now.records.items }
     requires within { All (λ number. number < length made.now.rows.rows) made.now.numbers.items }
     requires some { 0 < length made.now.rows.rows }
     ensures { IfOk result (λ cover. IsCover (length made.now.rows.rows) made.now.numbers.items made.now.records.items cover.items) }
 {
-    let cover = proposed_cover(alloc, made)?;
+    let cover = proposed_cover(alloc, leads, told, made)?;
     if is_cover(made, &cover) {
         Ok(cover)
     } else {
@@ -82,16 +90,4 @@ fn all_stay_within(numbers: &[u32], leads: &[RungLead], cover: &[u32]) -> bool
         }
     }
     true
-}
-
-// The cover by which all rows are representative.
-fn each_itself(alloc: Global, rows: u64) -> Result<Vec<u32>, Stopped>
-    ensures { IfOk result (λ cover. cover.items ≡ range_with_len 0 rows) }
-{
-    let rows = narrow(rows as usize)?;
-    let mut cover = Vec::with_capacity(alloc, rows as usize)?;
-    for row in 0..rows {
-        cover.push(row)?;
-    }
-    Ok(cover)
 }

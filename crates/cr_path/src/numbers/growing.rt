@@ -4,7 +4,7 @@ ghost use Rattle.std.specs.Prelude.{◌≡◌, ◌+◌, ◌<◌, ◌≤◌, leng
 ghost use Rattle.cr_path.specs.RungLeads.{HasNumber};
 
 use crate::numbers::stopped::Stopped;
-use cr_row::Row;
+use cr_row::{NoMemory, Row};
 use cr_rowset::{Pushed, RowStack};
 use std::alloc::Global;
 
@@ -68,6 +68,17 @@ pub fn narrow(place: usize) -> Result<u32, Stopped>
         Ok(number) => Ok(number),
         Err(_) => Err(Stopped::TooMany),
     }
+}
+
+/// The rows of a stack.
+pub fn rows_of(alloc: Global, stack: &RowStack) -> Result<Vec<Row>, NoMemory>
+    ensures { IfOk result (λ rows. rows.items ≡ stack.now.rows) }
+{
+    let mut rows = Vec::with_capacity(alloc, stack.len() as usize)?;
+    for place in 0..stack.len() {
+        rows.push(stack.row_at(place))?;
+    }
+    Ok(rows)
 }
 
 // The same rows in a stack with twice the room, or room for the most.

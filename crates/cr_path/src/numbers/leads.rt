@@ -181,18 +181,26 @@ impl<'a> Leads<'a> {
             || (has_row(&rows[last..], inverse) && self.path_limits.several)
     }
 
-    /// The length below which a node may have a live child by this step, of which the head after it is given, and
-    /// whether it brings rounds too early. It is 0 where no node may.
-    pub fn limit(&self, step: u8, after: &Row, round: bool) -> u16
+    /// How many leads a head is from rounds at least.
+    pub fn at_least(&self, head: &Row) -> u32
+        ensures { result ≡ at_least self.now most_rows head.now }
+    {
+        self.reach.at_least(head)
+    }
+
+    /// The length below which a node may have a live child by this step, of which it is given how many leads the head after
+    /// it is from rounds at least, and whether it brings rounds too early. It is 0 where no node may.
+    pub fn limit(&self, step: u8, level: u32, round: bool) -> u16
         requires { step < length self.now.leads }
-        ensures { (head : List ℕ) → after.now ≡ head_after self.now head step → round ≡ brings_round self.now (lead_from self.now head step)
+        ensures { (head : List ℕ) → level ≡ at_least self.now most_rows (head_after self.now head step)
+            → round ≡ brings_round self.now (lead_from self.now head step)
             → (rung : ℕ) → nat_lt rung result ≡ not (dies_after self.now head step rung) }
     {
         if round || self.has_row_twice(step) {
             return 0;
         }
         let length = u64::from(self.length_of(step));
-        let round = self.least_to_rounds(after);
+        let round = self.least_to_rounds(level);
         room_beside(self.path_limits.part_cap, length).min(room_beside(
             self.path_limits.cap,
             length + round,
@@ -219,12 +227,12 @@ impl<'a> Leads<'a> {
         lead_length(self.problem.leads(), step) as u8
     }
 
-    // The least number of changes that may lead from a head to rounds.
-    fn least_to_rounds(&self, head: &Row) -> u64
-        ensures is { result ≡ shortest self.now * at_least self.now most_rows head.now }
+    // The least number of changes that may lead to rounds from a head that is so many leads away at least.
+    fn least_to_rounds(&self, level: u32) -> u64
+        ensures is { result ≡ shortest self.now * level }
         ensures few { result < 2 ^ 40 }
     {
-        self.path_limits.shortest * u64::from(self.reach.at_least(head))
+        self.path_limits.shortest * u64::from(level)
     }
 }
 

@@ -1,19 +1,22 @@
 //! The leads of a problem, rung from all heads, with a number for each of their rows.
 
-ghost use Rattle.std.specs.Prelude.{◌≡◌, ◌+◌, ◌*◌, ◌<◌, ◌≤◌, ◌++◌, ◌∷◌, [], cond, length, get_or, map, All, IfOk};
+ghost use Rattle.std.specs.Prelude.{◌≡◌, ℕ, ◌+◌, ◌*◌, ◌<◌, ◌≤◌, ◌++◌, ◌∷◌, [], List, cond, length, get_or, map, All, IfOk};
 ghost use Rattle.cr_row.specs.Rows.{product};
+ghost use Rattle.cr_model.specs.Problems.{ProblemParts};
 ghost use Rattle.cr_leads.specs.Tables.{lead_table};
 ghost use Rattle.cr_false.specs.Telling.{AreTelling};
-ghost use Rattle.cr_path.specs.RungLeads.{AreHeads, AreNumbered, IsBegun};
+ghost use Rattle.cr_path.specs.RungLeads.{AreNumbered, IsBegun};
+ghost use Rattle.cr_path.specs.Heads.{AreAllHeads, IsNamed};
+ghost use Rattle.cr_path.specs.ToldRows.{ArePlaces, AreToldRows};
 ghost use Rattle.cr_path.specs.Begun.{numbers_in};
 ghost use Rattle.cr_path.specs.Rung.{IsHeld, rung_numbers, IsRung};
 
 use crate::numbers::growing::{narrow, number};
-use crate::numbers::heads::all_heads;
+use crate::numbers::heads::Heads;
 use crate::numbers::leads::Leads;
 use crate::numbers::room::{MOST_HEADS, Room};
 use crate::numbers::stopped::Stopped;
-use cr_false::TellingRows;
+use crate::numbers::told_rows::{ToldRows, rows_within};
 use cr_row::{NoMemory, Row};
 use cr_rowset::RowStack;
 use std::alloc::Global;
@@ -46,7 +49,7 @@ impl RungLead {
 /// Heads and rows at their numbers, a record of each lead that was rung so far, and the numbers of the rows of these.
 #[derive(Drop)]
 pub struct LeadNumbers {
-    pub heads: RowStack,
+    pub heads: Heads,
     pub rows: RowStack,
     pub records: Vec<RungLead>,
     pub numbers: Vec<u32>,
@@ -58,19 +61,20 @@ impl LeadNumbers {
     pub fn of(
         alloc: Global,
         leads: &Leads,
-        told: &TellingRows,
+        told: &ToldRows,
         room: Room,
     ) -> Result<LeadNumbers, Stopped>
-        requires { AreTelling (lead_table leads.now) told.now }
-        ensures { IfOk result (λ made. IsRung leads.now told.now (numbers_in leads.now made)) }
+        requires telling { AreTelling (lead_table leads.now) told.now.told }
+        requires rows { AreToldRows leads.now told.now (length leads.now.leads) }
+        ensures { IfOk result (λ made. IsRung leads.now told.now.told (numbers_in leads.now made)) }
     {
         let row_limit = room.row_limit();
-        let most_heads = room.head_limit(told, leads.count());
-        let heads = all_heads(alloc, leads, most_heads)?;
+        let heads = Heads::of(alloc, leads, room.head_limit(told.told(), leads.count()))?;
         let mut made = begin(alloc, leads, told, heads, row_limit)?;
+        let mut names = Vec::new(alloc);
         let mut place = 0;
-        while place < made.heads.len() {
-            number_leads(alloc, &mut made, leads, told, place, most_heads, row_limit)?;
+        while place < made.heads.rows.len() {
+            number_leads(alloc, &mut made, &mut names, leads, told, place, row_limit)?;
             place += 1;
         }
         Ok(made)
@@ -81,21 +85,21 @@ impl LeadNumbers {
 fn begin(
     alloc: Global,
     leads: &Leads,
-    told: &TellingRows,
-    heads: RowStack,
+    told: &ToldRows,
+    heads: Heads,
     row_limit: u32,
 ) -> Result<LeadNumbers, Stopped>
-    requires telling { AreTelling (lead_table leads.now) told.now }
-    requires are { AreHeads leads.now heads.rows }
-    requires few { length heads.rows ≤ MOST_HEADS }
-    ensures begun { IfOk result (λ made. IsBegun leads.now told.now (numbers_in leads.now made) 0) }
-    ensures heads { IfOk result (λ made. made.heads.rows ≡ heads.rows) }
+    requires heads { AreAllHeads leads.now heads }
+    requires few { length heads.rows.items ≤ MOST_HEADS }
+    requires telling { AreTelling (lead_table leads.now) told.now.told }
+    ensures begun { IfOk result (λ made. IsBegun leads.now told.now.told (numbers_in leads.now made) 0) }
+    ensures heads { IfOk result (λ made. made.heads ≡ heads) }
 {
-    let number_of_heads = heads.len() as usize;
+    let number_of_heads = heads.rows.len();
     let rows_of_a_head = rows_of_all(leads, told);
-    // The stack gets more room where it needs some.
-    let room = 1 + heads.len() * rows_of_a_head as u64 / 2;
-    let mut rows = RowStack::with_room(alloc, room.min(u64::from(row_limit)))?;
+    // Often two heads make one row. The stack gets more room where it needs some.
+    let room = (told.rows().len() as u64).saturating_mul(number_of_heads as u64) / 2;
+    let mut rows = RowStack::with_room(alloc, (room + 1).min(u64::from(row_limit)))?;
     number(alloc, &mut rows, leads.rounds(), row_limit)?;
     // It tells that the rows differ.
     let _ = rows.len();
@@ -108,97 +112,117 @@ fn begin(
 }
 
 // The number of rows that tell the leads of all steps.
-fn rows_of_all(leads: &Leads, told: &TellingRows) -> usize
-    requires { AreTelling (lead_table leads.now) told.now }
+fn rows_of_all(leads: &Leads, told: &ToldRows) -> usize
+    requires { AreTelling (lead_table leads.now) told.now.told }
     ensures { result ≤ 3072 }
 {
     let mut rows = 0;
     for step in 0..leads.count() {
-        rows += rows_within(leads, told, step).len();
+        rows += rows_within(leads, told.told(), step).len();
     }
     rows
 }
 
-// Those that tell the lead of a step.
-fn rows_within<'a>(leads: &Leads, told: &'a TellingRows, step: u8) -> &'a [Row]
-    requires telling { AreTelling (lead_table leads.now) told.now }
-    requires step { step < length leads.now.leads }
-    ensures is { result.now ≡ get_or told.now step [] }
-    ensures few { length result.now ≤ 128 }
-    ensures same_stage { All (λ row. length row ≡ leads.now.stage) result.now }
-{
-    // It tells how many rows the lead has.
-    let _ = leads.rows_of(step);
-    told.rows_of(step)
-}
-
-// Numbers the leads of all steps from the head at a place.
+// Numbers the leads of all steps from the head at a place. The names are those of the rows of the head before.
 fn number_leads(
     alloc: Global,
     made: &mut LeadNumbers,
+    names: &mut Vec<u32>,
     leads: &Leads,
-    told: &TellingRows,
-    place: u64,
-    most_heads: u32,
+    told: &ToldRows,
+    place: usize,
     row_limit: u32,
 ) -> Result<(), Stopped>
-    requires telling { AreTelling (lead_table leads.now) told.now }
-    requires begun { IsBegun leads.now told.now (numbers_in leads.now made.old) (place * length leads.now.leads) }
-    requires place { place < length made.old.heads.rows }
-    requires few { length made.old.heads.rows ≤ most_heads }
-    ensures begun { IfOk result (λ _. IsBegun leads.now told.now (numbers_in leads.now made.new) ((place + 1) * length leads.now.leads)) }
-    ensures place { IfOk result (λ _. place < length made.new.heads.rows) }
-    ensures few { IfOk result (λ _. length made.new.heads.rows ≤ most_heads) }
+    requires telling { AreTelling (lead_table leads.now) told.now.told }
+    requires rows { AreToldRows leads.now told.now (length leads.now.leads) }
+    requires heads { AreAllHeads leads.now made.old.heads }
+    requires begun { IsBegun leads.now told.now.told (numbers_in leads.now made.old) (place * length leads.now.leads) }
+    requires place { place < length made.old.heads.rows.items }
+    ensures begun { IfOk result (λ _. IsBegun leads.now told.now.told (numbers_in leads.now made.new) ((place + 1) * length leads.now.leads)) }
+    ensures heads { IfOk result (λ _. made.new.heads ≡ made.old.heads) }
 {
+    let head = made.heads.head(place);
+    number_told(alloc, made, names, told.rows(), head, row_limit)?;
+    let inverse = head.inverse();
     for step in 0..leads.count() {
-        number_lead(alloc, made, leads, told, place, step, most_heads, row_limit)?;
+        number_lead(made, leads, told, names, &inverse, place, step)?;
     }
     Ok(())
 }
 
-// Numbers the lead of a step from the head at a place.
-fn number_lead(
+// Numbers the rows that tell leads, which are rung from a head: these numbers are the names.
+fn number_told(
     alloc: Global,
     made: &mut LeadNumbers,
-    leads: &Leads,
-    told: &TellingRows,
-    place: u64,
-    step: u8,
-    most_heads: u32,
+    names: &mut Vec<u32>,
+    told: &[Row],
+    head: Row,
     row_limit: u32,
 ) -> Result<(), Stopped>
-    requires telling { AreTelling (lead_table leads.now) told.now }
-    requires begun { IsBegun leads.now told.now (numbers_in leads.now made.old) (place * length leads.now.leads + step) }
-    requires place { place < length made.old.heads.rows }
-    requires step { step < length leads.now.leads }
-    requires few { length made.old.heads.rows ≤ most_heads }
-    ensures begun { IfOk result (λ _. IsBegun leads.now told.now (numbers_in leads.now made.new) (place * length leads.now.leads + step + 1)) }
-    ensures place { IfOk result (λ _. place < length made.new.heads.rows) }
-    ensures few { IfOk result (λ _. length made.new.heads.rows ≤ most_heads) }
+    requires { All (λ row. length row ≡ length head) told.now }
+    ensures names { IfOk result (λ _. ArePlaces made.new.rows.rows (map (product head) told.now) names.new.items) }
+    ensures begun { IfOk result (λ _. (p : ProblemParts) (telling : List (List (List ℕ))) (done : ℕ)
+        → IsBegun p telling (numbers_in p made.old) done → IsBegun p telling (numbers_in p made.new) done) }
+    ensures heads { IfOk result (λ _. made.new.heads ≡ made.old.heads) }
 {
-    let head = made.heads.row_at(place);
-    let start = made.numbers.len();
-    number_rows(
-        alloc,
-        &mut made.rows,
-        &mut made.numbers,
-        head,
-        rows_within(leads, told, step),
-        row_limit,
-    )?;
+    names.clear();
+    number_rows(alloc, &mut made.rows, names, head, told, row_limit)?;
     // It tells that the rows differ.
     let _ = made.rows.len();
-    let inverse = head.inverse();
-    add_first_if(&mut made.numbers, leads.has_round(step, &inverse))?;
-    let after = leads.head_after(&head, step);
-    let next = number(alloc, &mut made.heads, after, most_heads)?;
+    Ok(())
+}
+
+// Numbers the lead of a step from the head at a place, of which the inverse is given, by the names of rows that are rung from
+// this head.
+fn number_lead(
+    made: &mut LeadNumbers,
+    leads: &Leads,
+    told: &ToldRows,
+    names: &[u32],
+    inverse: &Row,
+    place: usize,
+    step: u8,
+) -> Result<(), Stopped>
+    requires telling { AreTelling (lead_table leads.now) told.now.told }
+    requires rows { AreToldRows leads.now told.now (length leads.now.leads) }
+    requires begun { IsBegun leads.now told.now.told (numbers_in leads.now made.old) (place * length leads.now.leads + step) }
+    requires named { IsNamed leads.now made.old.heads place inverse.now told.now.rows made.old.rows.rows names.now }
+    requires step { step < length leads.now.leads }
+    ensures begun { IfOk result (λ _. IsBegun leads.now told.now.told (numbers_in leads.now made.new) (place * length leads.now.leads + step + 1)) }
+    ensures named { IfOk result (λ _. IsNamed leads.now made.new.heads place inverse.now told.now.rows made.new.rows.rows names.now) }
+    ensures heads { IfOk result (λ _. made.new.heads ≡ made.old.heads) }
+{
+    let start = made.numbers.len();
+    add_named(&mut made.numbers, names, told.places_of(step))?;
+    add_first_if(&mut made.numbers, leads.has_round(step, inverse))?;
+    let next = made.heads.next_of(leads, place, step);
+    let level = made.heads.level_of(leads, next);
     made.records.push(RungLead {
         next,
         start: narrow(start)?,
         end: narrow(made.numbers.len())?,
-        limit: leads.limit(step, &after, leads.brings_round(step, &inverse)),
+        limit: leads.limit(step, level, leads.brings_round(step, inverse)),
         length: leads.length_of(step),
     })?;
+    Ok(())
+}
+
+// The number at a place.
+fn number_at(numbers: &[u32], place: usize) -> u32
+    requires { place < length numbers.now }
+    ensures { result ≡ get_or numbers.now place 0 }
+{
+    numbers[place]
+}
+
+// Appends the names at some places.
+fn add_named(numbers: &mut Vec<u32>, names: &[u32], places: &[u32]) -> Result<(), NoMemory>
+    requires { All (λ place. place < length names.now) places.now }
+    ensures { IfOk result (λ _. numbers.new.items ≡ numbers.old.items ++ map (λ place. get_or names.now place 0) places.now) }
+{
+    for place in places {
+        numbers.push(number_at(names, *place as usize))?;
+    }
     Ok(())
 }
 

@@ -22,11 +22,11 @@ use crate::numbers::row_numbers::RowNumbers;
 use crate::numbers::rung_leads::LeadNumbers;
 use crate::numbers::rung_patterns::{Fitting, fittings_of};
 use crate::numbers::stopped::Stopped;
+use crate::numbers::told_rows::ToldRows;
 use cr_leads::LeadTable;
 use cr_model::Problem;
 use cr_reach::ReachTable;
 use cr_row::{NoMemory, Row};
-use cr_rowset::RowStack;
 use std::alloc::Global;
 use std::marker::Model;
 
@@ -274,11 +274,13 @@ fn table_of(alloc: Global, leads: &Leads, room: Room) -> Result<NumberTable, Sto
     ensures { IfOk result (λ table. IsNumbered leads.now table) }
 {
     let told = leads.telling_rows(alloc)?;
-    let made = LeadNumbers::of(alloc, leads, &told, room)?;
-    let cover = cover_of(alloc, &made)?;
+    let told_rows = ToldRows::of(alloc, leads, &told)?;
+    let made = LeadNumbers::of(alloc, leads, &told_rows, room)?;
+    let cover = cover_of(alloc, leads, &told, &made)?;
     let representatives = Representatives::of(alloc, &made.rows, &cover)?;
     let named = RowNumbers::of(alloc, &made, &cover, &representatives)?;
-    let heads = rows_of(alloc, &made.heads)?;
+    let found = made.heads;
+    let heads = found.rows;
     let round_heads = round_heads_of(alloc, leads, &heads)?;
     let records = records_of(alloc, &made.records, leads.count(), &round_heads)?;
     let twice = twice_of(alloc, leads)?;
@@ -293,17 +295,6 @@ fn table_of(alloc: Global, leads: &Leads, room: Room) -> Result<NumberTable, Sto
         twice,
         fittings,
     })
-}
-
-// The rows of a stack.
-fn rows_of(alloc: Global, stack: &RowStack) -> Result<Vec<Row>, NoMemory>
-    ensures { IfOk result (λ rows. rows.items ≡ stack.now.rows) }
-{
-    let mut rows = Vec::with_capacity(alloc, stack.len() as usize)?;
-    for place in 0..stack.len() {
-        rows.push(stack.row_at(place))?;
-    }
-    Ok(rows)
 }
 
 // A number of records by the number of steps. Two or three steps, as most problems have, are constants here: to divide by a

@@ -9,10 +9,10 @@ returns c =
     let p = c.args.leads.now in
     let made = c.loop-place.made in
     let place = c.loop-place.place in
-    let all : place ≡ length made.heads.rows = omega (arith, c.loop-place-test.false, c.len.ensures.is, c.loop-place.invariant.place) in
-    rung_whole p c.args.told.now (numbers_in p made) (place * length p.leads) c.loop-place.invariant.begun (ap (λ (n : ℕ). n * length p.leads) all)
+    let all : place ≡ length made.heads.rows.items = omega (arith, c.loop-place-test.false, c.len.ensures, made.heads.rows.ok.0, c.loop-place.invariant.place) in
+    rung_whole p c.args.told.now.told (numbers_in p made) (place * length p.leads) c.loop-place.invariant.begun (ap (λ (n : ℕ). n * length p.leads) all)
 
-pub head_limit-most_heads-requires : goal.head_limit-most_heads-requires
-head_limit-most_heads-requires c =
+pub head_limit-requires : goal.head_limit-requires
+head_limit-requires c =
     let p = c.args.leads.now in
-    omega (arith, c.count.ensures.is, c.requires.of_leads.counted, leads_counted (lead_table p) p refl)
+    omega (arith, c.count.ensures.is, ap length c.told.ensures, c.requires.telling.of_leads.counted, leads_counted (lead_table p) p refl)

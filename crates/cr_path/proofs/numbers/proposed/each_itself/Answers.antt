@@ -1,6 +1,6 @@
 use Rattle.std.proofs.Common.{◌++◌, ◌∷◌, [], ◌∙◌, List, ℕ, sym, ap}
 use Rattle.cr_path.proofs.Covering.{numbers_more}
-use Rattle.cr_path.proofs.numbers.covers.each_itself.Goals as goal
+use Rattle.cr_path.proofs.numbers.proposed.each_itself.Goals as goal
 
 pub loop-row-preserved : goal.loop-row-preserved
 loop-row-preserved c =

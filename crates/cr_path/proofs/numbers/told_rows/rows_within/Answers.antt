@@ -1,7 +1,7 @@
 use Rattle.std.proofs.Common.{◌≡◌, ◌<◌, ℕ, List, length, All, refl, sym, ap, subst, arith}
 use Rattle.cr_leads.specs.Tables.{lead_table, leads_counted, rows_of_step}
 use Rattle.cr_false.proofs.Between.{told_rows}
-use Rattle.cr_path.proofs.numbers.rung_leads.rows_within.Goals as goal
+use Rattle.cr_path.proofs.numbers.told_rows.rows_within.Goals as goal
 
 pub rows_of-requires-2 : goal.rows_of-requires-2
 rows_of-requires-2 c =
