@@ -32,7 +32,7 @@ impl RowNames {
             made.now.records.items row_names.leads.items row_names.names.items (length made.now.records.items)) }
     {
         let mut leads = Vec::with_capacity(alloc, made.records.len())?;
-        let mut names = Vec::new(alloc);
+        let mut names = Vec::with_capacity(alloc, made.numbers.len())?;
         for lead in &made.records {
             let more = names_of(
                 alloc,
@@ -72,7 +72,7 @@ fn names_of(
     requires { All (HasName cover.now representatives.now.places.items (length representatives.now.rows.items)) lead.now }
     ensures { IfOk result (λ names. AreSame (map (name_of cover.now representatives.now.places.items) lead.now) names.items) }
 {
-    let mut names = Vec::new(alloc);
+    let mut names = Vec::with_capacity(alloc, lead.len())?;
     for row in lead {
         add_once(
             &mut names,
